@@ -1,0 +1,15 @@
+pub mod Sums
+pub mod Pairs
+pub mod Compare
+pub mod Largest
+pub mod Exists
+pub mod Shortfalls
+pub mod Buses
+pub mod Levels
+pub mod Posts
+pub mod Heights
+pub mod Ranks
+pub mod Added
+pub mod Updates
+pub mod Alike
+pub mod Examples

@@ -1,0 +1,4 @@
+// Pair stores and limit rules: what the table works on.
+pub mod faults;
+pub mod pairs;
+pub mod views;

@@ -1,0 +1,2 @@
+// The table over any store and any rule.
+pub mod faults;
