@@ -7,7 +7,7 @@ use native.Mathlib.Omega.{arith}
 use native.Mathlib.Nat.{le-refl}
 use Rattle.std.proofs.shelf.Tests.{cases-bool, and-parts, and-from, not-true, not-from-false}
 use Rattle.blocks.specs.Sums.{bit}
-use Rattle.blocks.specs.Sets.{Set, _∪_, _∖_, one, Within, Apart, Same}
+use Rattle.blocks.specs.Sets.{Set, _∪_, _∖_, Within, Apart, Same}
 use Rattle.blocks.specs.Yards.{Yard, nodes, pairs}
 use Rattle.blocks.specs.Blocks.{Inside, Outside, Block}
 use Rattle.blocks.proofs.Pairs.{yard, pairs-le₂, limit-le}

@@ -8,7 +8,7 @@ use lib.Dec.{eqb}
 use Rattle.std.proofs.shelf.Tests.{cases-bool, cases-eq, cases-lt, and-left, and-right, eq-eqb, ltb-true, ltb-false, not-from-true, true≢false}
 use Rattle.std.proofs.shelf.Ways.{tells}
 use Rattle.blocks.specs.Sums.{bit}
-use Rattle.blocks.specs.Sets.{Set, nobody, largest, _∪_, _∩_, _∖_, one, Within, Same}
+use Rattle.blocks.specs.Sets.{Set, nobody, _∪_, _∩_, _∖_, one, Within, Same}
 use Rattle.blocks.specs.Limits.{limit}
 use Rattle.blocks.specs.Yards.{Yard, nodes, pairs}
 use Rattle.blocks.specs.Blocks.{Block, Shortfall, excess, shortfall, block, Exceeds}

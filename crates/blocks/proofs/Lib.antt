@@ -13,3 +13,17 @@ pub mod Added
 pub mod Updates
 pub mod Alike
 pub mod Examples
+pub mod Duality
+pub mod Reaching
+pub mod Tightness
+pub mod Chains
+pub mod Queues
+pub mod Changes
+pub mod Choosing
+pub mod Evenness
+pub mod Settling
+pub mod EvenExists
+pub mod OneChain
+pub mod OldChains
+pub mod Pointing
+pub mod Reading

@@ -67,7 +67,7 @@ cond-lt false k l e h = absurd (false≢true e)
 
 pub limit-lt : (n : ℕ) (ℓ m : ℕ → ℕ) (X : Set) (k : ℕ) → k < n → X k ≡ true → ((i : ℕ) → i < n → ℓ i ≤ m i) → ℓ k < m k → limit n ℓ X < limit n m X
 unfolding limit
-limit-lt n ℓ m X k w x le lt = sum-lt n _ _ k w (λ i v. cond-le (X i) (ℓ i) (m i) (le i v)) (cond-lt (X k) (ℓ k) (m k) x lt)
+limit-lt n ℓ m X k w x le lt = sum-lt n _ _ (λ i v. cond-le (X i) (ℓ i) (m i) (le i v)) k w (cond-lt (X k) (ℓ k) (m k) x lt)
 
 -- what counts is which numbers below n the set holds
 pub limit-same : (n : ℕ) (ℓ : ℕ → ℕ) (X Y : Set) → Same n X Y → limit n ℓ X ≡ limit n ℓ Y

@@ -9,7 +9,7 @@ use Rattle.std.proofs.shelf.Tests.{cases-bool, cases-lt, eq-eqb, eqb-true}
 use Rattle.std.proofs.shelf.Ways.{tells}
 use Rattle.blocks.specs.Sums.{sum, bit}
 use Rattle.blocks.specs.Sets.{Set, _∖_, one, Within}
-use Rattle.blocks.specs.Limits.{limit, Limits, Rising, limit-at}
+use Rattle.blocks.specs.Limits.{Limits, Rising, limit-at}
 use Rattle.blocks.specs.Yards.{Yard, nodes, pairs}
 use Rattle.blocks.specs.Blocks.{Block, block-at}
 use Rattle.blocks.proofs.Sums.{sum-cong, sum-zero, sum-one, sum-add, sum-bound}

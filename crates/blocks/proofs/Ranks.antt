@@ -2,17 +2,16 @@
 use Prim.Native.Nat.{ℕ, zero, suc, _-_, _<_, _≤_}
 use mathlib.Core.Path.{_≡_, refl, sym, ap, _∙_}
 use mathlib.Core.Logic.{inl, inr}
-use mathlib.Core.Bool.{Bool, true, false, not}
+use mathlib.Core.Bool.{Bool, true, false}
 use native.Mathlib.Omega.{arith}
 use native.Mathlib.Numerals.{add-one}
 use lib.Dec.{ltb, leb, le→leb, leb→le}
 use lib.IntN.{ℤ, pos, negsuc, _+ℤ_}
 use lib.Signed.{_≤ℤ_}
 use Rattle.std.proofs.shelf.Tests.{cases-bool, cases-eq, cases-lt, true≢false, lt-ltb, le-ltb, ltb-true}
-use Rattle.blocks.specs.Sets.{one}
-use Rattle.blocks.specs.Limits.{limit, Limits, Rising, limit-at}
-use Rattle.blocks.specs.Yards.{Yard, nodes, pairs}
-use Rattle.blocks.specs.Blocks.{block, block-at}
+use Rattle.blocks.specs.Limits.{Limits, Rising, limit-at}
+use Rattle.blocks.specs.Yards.{Yard, nodes}
+use Rattle.blocks.specs.Blocks.{block-at}
 use Rattle.blocks.specs.Theorems.{Rank-tells}
 use Rattle.blocks.specs.Ranks.{height, rank-plus-one, minus-one, rank}
 use Rattle.blocks.proofs.Compare.{nested}

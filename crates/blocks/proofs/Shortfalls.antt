@@ -1,5 +1,5 @@
 -- The shortfall is the one number that its description fits.
-use Prim.Native.Nat.{ℕ, _+_, _≤_}
+use Prim.Native.Nat.{ℕ}
 use mathlib.Core.Path.{_≡_}
 use native.Mathlib.Omega.{arith}
 use Rattle.blocks.specs.Sets.{Set}

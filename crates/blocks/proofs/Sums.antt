@@ -1,10 +1,11 @@
 -- Lemmas on sums.
 use Prim.Native.Nat.{ℕ, zero, suc, _+_, _-_, _<_, _≤_}
 use mathlib.Core.Path.{_≡_, refl, sym, ap, _∙_}
-use mathlib.Core.Logic.{_⊎_, inl, inr}
+use mathlib.Core.Logic.{inl, inr}
+use mathlib.Core.Bool.{cond}
 use native.Mathlib.Omega.{arith}
-use native.Mathlib.Nat.{le-antisymm}
-use Rattle.std.proofs.shelf.Tests.{cases-eq}
+use lib.Dec.{eqb}
+use Rattle.std.proofs.shelf.Tests.{cases-eq, eq-eqb, ne-eqb, cond-true, cond-false}
 use Rattle.blocks.specs.Sums.{sum}
 
 -- two sums against two, place by place: the lemma that nearly all others come from
@@ -37,6 +38,9 @@ unfolding sum
 sum-zero zero = refl
 sum-zero (suc n) = omega (arith, sum-zero n)
 
+pub sum-none : (n : ℕ) (f : ℕ → ℕ) → ((i : ℕ) → i < n → f i ≡ 0) → sum n f ≡ 0
+sum-none n f h = sum-cong n f (λ _. 0) h ∙ sum-zero n
+
 -- of a sum of functions
 pub sum-add : (n : ℕ) (f g : ℕ → ℕ) → sum n (λ i. f i + g i) ≡ sum n f + sum n g
 sum-add n f g =
@@ -57,15 +61,15 @@ sum-one (suc n) f g m w same = elim (cases-eq n m) [
 ]
 
 -- strict where one place is strict
-pub sum-lt : (n : ℕ) (f g : ℕ → ℕ) (m : ℕ) → m < n → ((i : ℕ) → i < n → f i ≤ g i) → f m < g m → sum n f < sum n g
+pub sum-lt : (n : ℕ) (f g : ℕ → ℕ) → ((i : ℕ) → i < n → f i ≤ g i) → (m : ℕ) → m < n → f m < g m → sum n f < sum n g
 unfolding sum
-sum-lt zero f g m w le lt = omega arith
-sum-lt (suc n) f g m w le lt = elim (cases-eq n m) [
+sum-lt zero f g le m w lt = omega arith
+sum-lt (suc n) f g le m w lt = elim (cases-eq n m) [
   | inl e ↦
       let before : sum n f ≤ sum n g = sum-le n f g (λ i v. le i (omega arith)) in
       omega (arith, ap f e, ap g e)
   | inr d ↦
-      let before : sum n f < sum n g = sum-lt n f g m (omega arith) (λ i v. le i (omega arith)) lt in
+      let before : sum n f < sum n g = sum-lt n f g (λ i v. le i (omega arith)) m (omega arith) lt in
       omega (arith, le n (omega arith))
 ]
 
@@ -84,3 +88,23 @@ sum-swap zero n f = sym (sum-zero n)
 sum-swap (suc m) n f =
     let before : sum m (λ i. sum n (λ j. f i j)) ≡ sum n (λ j. sum m (λ i. f i j)) = sum-swap m n f in
     omega (arith, sum-add n (λ j. sum m (λ i. f i j)) (λ j. f m j))
+
+-- c at the place i, else nothing
+pub sum-at : (n i c : ℕ) → i < n → sum n (λ k. cond (eqb k i) c 0) ≡ c
+sum-at n i c l =
+    let one = sum-one n (λ k. cond (eqb k i) c 0) (λ _. 0) i l (λ k _ d. cond-false (eqb k i) c 0 (ne-eqb k i d)) in
+    let here = cond-true (eqb i i) c 0 (eq-eqb i i refl) in
+    omega (arith, sum-zero n)
+
+-- equal sums of which one is nowhere larger are equal everywhere
+pub sum-same : (n : ℕ) (f g : ℕ → ℕ) → ((k : ℕ) → k < n → f k ≤ g k) → sum n f ≡ sum n g → (i : ℕ) → i < n → f i ≡ g i
+sum-same n f g h e i l = elim (cases-eq (f i) (g i)) [
+  | inl s ↦ s
+  | inr d ↦ let a = h i l in let b = sum-lt n f g h i l (omega arith) in omega arith
+]
+
+-- in two parts
+pub sum-split : (n m : ℕ) (f : ℕ → ℕ) → sum (n + m) f ≡ sum n f + sum m (λ k. f (n + k))
+unfolding sum
+sum-split n zero f = let e : n + 0 ≡ n = omega arith in rw e (omega arith)
+sum-split n (suc m) f = let e : n + suc m ≡ suc (n + m) = omega arith in let r = sum-split n m f in rw e (omega arith)

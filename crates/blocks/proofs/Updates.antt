@@ -5,8 +5,7 @@ use mathlib.Core.Logic.{_⊎_, inl, inr}
 use mathlib.Core.Bool.{Bool, true, false, not, _&&_, _||_}
 use native.Mathlib.Omega.{arith}
 use lib.Dec.{eqb}
-use lib.IntN.{ℤ, pos, _+ℤ_}
-use lib.Signed.{_≤ℤ_}
+use lib.IntN.{pos}
 use Rattle.std.proofs.shelf.Tests.{cases-bool, cases-eq, true≢false}
 use Rattle.std.proofs.shelf.Ways.{tells}
 use Rattle.blocks.specs.Sums.{bit}

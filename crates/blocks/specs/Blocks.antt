@@ -2,7 +2,7 @@
 -- by whichever way it is counted.
 use Prim.Native.Nat.{ℕ, _+_, _-_, _<_, _≤_}
 use mathlib.Core.Path.{_≡_}
-use mathlib.Core.Bool.{Bool, true}
+use mathlib.Core.Bool.{true}
 use lib.Dec.{ltb}
 use Rattle.blocks.specs.Sets.{Set, _∪_, _∖_, one, Within, Apart, largest}
 use Rattle.blocks.specs.Limits.{Limits, limit, limit-at}

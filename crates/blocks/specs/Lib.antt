@@ -4,5 +4,8 @@ pub mod Limits
 pub mod Yards
 pub mod Blocks
 pub mod Ranks
+pub mod Networks
+pub mod Chains
+pub mod Sides
 pub mod Examples
 pub mod Theorems

@@ -1,16 +1,14 @@
 -- The theorems of the subject, as statements. Functions carry them on their contracts.
 use Prim.Native.Nat.{ℕ, _+_, _<_, _≤_}
 use mathlib.Core.Path.{_≡_}
-use mathlib.Core.Bool.{Bool, true, false}
+use mathlib.Core.Bool.{true, false}
 use lib.IntN.{ℤ, pos}
 use lib.Signed.{_≤ℤ_}
-use Rattle.std.specs.shelf.Lists.{All}
 use Rattle.blocks.specs.Sets.{Set, Within, Same}
 use Rattle.blocks.specs.Limits.{Limits, Rising}
 use Rattle.blocks.specs.Yards.{Yard, nodes, pairs, add, drop}
-use Rattle.blocks.specs.Blocks.{Block, Shortfall, shortfall, block, block-at, shortfall-at}
+use Rattle.blocks.specs.Blocks.{Block, Shortfall, block-at, shortfall-at}
 use Rattle.blocks.specs.Ranks.{rank, Raised, Lowered}
-use Rattle.blocks.specs.Examples.{Example, Right}
 
 -- this set is the block, in every yard and at all limits
 abbrev pub Block-exists : (Yard → (ℕ → ℕ) → Set) → Type 0
