@@ -100,16 +100,16 @@ pub chain-pairs : (N : ℕ) (x : ℕ) (vs : List ℕ) (leads : Leads) → Networ
 chain-pairs N x vs leads net c = pairs-same N (turned x vs leads) leads (chain-joins N x vs leads net c)
 
 -- exactly the links of the chain are turned
-linked-absent : (x v : ℕ) (vs : List ℕ) → NoneOf x (v ∷ vs) → (b : ℕ) → (next-in v vs x b ≡ false) × (next-in v vs b x ≡ false)
-linked-absent x v [] f b = (refl, refl)
-linked-absent x v (w ∷ vs) f b = let r = linked-absent x w vs (f .1) b in let p = f .0 in let q = f .1 .0 in (grind (arith, tells), grind (arith, tells))
+pub next-absent : (x v : ℕ) (vs : List ℕ) → NoneOf x (v ∷ vs) → (b : ℕ) → (next-in v vs x b ≡ false) × (next-in v vs b x ≡ false)
+next-absent x v [] f b = (refl, refl)
+next-absent x v (w ∷ vs) f b = let r = next-absent x w vs (f .1) b in let p = f .0 in let q = f .1 .0 in (grind (arith, tells), grind (arith, tells))
 
 pub chain-exactly : (x : ℕ) (vs : List ℕ) (leads : Leads) → Chain leads x vs → (a b : ℕ)
     → turned x vs leads a b ≡ cond (next-in x vs a b) false (cond (next-in x vs b a) true (leads a b))
 chain-exactly x [] leads c a b = refl
 chain-exactly x (y ∷ vs) leads c a b =
     let r = chain-exactly y vs (turn x y leads) (turn-chain leads x y y vs (c .1) (c .2)) a b in
-    let p = linked-absent x y vs (c .1) y in
+    let p = next-absent x y vs (c .1) y in
     grind (arith, tells)
 
 pub chain-walk : (leads : Leads) (x : ℕ) (vs : List ℕ) → Chain leads x vs → Walk leads x (end x vs)

@@ -28,13 +28,13 @@ over-plus N m k ℓ s l h =
     each z zl = let e = h z zl in grind (arith, tells)
 
 module _ (N : ℕ) (leads : Leads) (x y : ℕ) (lx : x < N) (ly : y < N) where
-  added-load : leads x y ≡ false → (z : ℕ) → load N (with-lead x y leads) z ≡ load N leads z + bit (eqb z y)
+  pub added-load : leads x y ≡ false → (z : ℕ) → load N (with-lead x y leads) z ≡ load N leads z + bit (eqb z y)
   added-load f z =
       let a = sum-cong N (λ a. bit (with-lead x y leads a z)) (λ a. bit (leads a z) + cond (eqb a x) (bit (eqb z y)) 0) (λ a _. grind (arith, tells)) in
       let b = sum-add N (λ a. bit (leads a z)) (λ a. cond (eqb a x) (bit (eqb z y)) 0) in
       let c = sum-at N x (bit (eqb z y)) lx in omega arith
 
-  removed-load : leads x y ≡ true → (z : ℕ) → load N leads z ≡ load N (without-lead x y leads) z + bit (eqb z y)
+  pub removed-load : leads x y ≡ true → (z : ℕ) → load N leads z ≡ load N (without-lead x y leads) z + bit (eqb z y)
   removed-load f z =
       let a = sum-cong N (λ a. bit (leads a z)) (λ a. bit (without-lead x y leads a z) + cond (eqb a x) (bit (eqb z y)) 0) (λ a _. grind (arith, tells)) in
       let b = sum-add N (λ a. bit (without-lead x y leads a z)) (λ a. cond (eqb a x) (bit (eqb z y)) 0) in

@@ -21,7 +21,7 @@ use Rattle.std.proofs.shelf.Lists.{getD-append-left, getD-push}
 use Rattle.blocks.proofs.Ranks.{rank-soon}
 
 -- f 0, … , f (n − 1)
-from : {X : Type 0} → ℕ → (ℕ → X) → List X
+unfoldable pub from : {X : Type 0} → ℕ → (ℕ → X) → List X
 from zero f = []
 from (suc n) f = f 0 ∷ from n (λ k. f (suc k))
 
@@ -51,7 +51,7 @@ computed : map found examples ≡ map claimed examples
 unfolding found claimed from examples height block shortfall largest excess pairs limit sum limit-at
 computed = refl
 
-getD-from : {X : Type 0} (m : ℕ) (f : ℕ → X) (n : ℕ) (d : X) → n < m → getD (from m f) n d ≡ f n
+pub getD-from : {X : Type 0} (m : ℕ) (f : ℕ → X) (n : ℕ) (d : X) → n < m → getD (from m f) n d ≡ f n
 unfolding from
 getD-from zero f n d w = absurd (omega arith)
 getD-from (suc m) f zero d w = refl
@@ -67,7 +67,7 @@ nobody-left : (A : Yard) (ℓ : ℕ → ℕ) (n : ℕ) → shortfall A ℓ ≡ 0
 unfolding block
 nobody-left A ℓ n e = le-ltb _ _ (omega arith)
 
-climbing : (c : Example) → 1 ≤ c .step → Rising (limits-of c)
+pub climbing : (c : Example) → 1 ≤ c .step → Rising (limits-of c)
 climbing c h a p w = omega (arith, mul-suc (c .step) a)
 
 right : (c : Example) → found c ≡ claimed c → Right c

@@ -26,4 +26,9 @@ pub mod EvenExists
 pub mod OneChain
 pub mod OldChains
 pub mod Pointing
+pub mod Flips
 pub mod Reading
+pub mod Yards
+pub mod OnePair
+pub mod Turning
+pub mod SideExamples

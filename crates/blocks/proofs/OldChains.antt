@@ -9,7 +9,7 @@ use lib.Dec.{eqb}
 use Rattle.std.proofs.shelf.Tests.{both-ways}
 use Rattle.std.proofs.shelf.Ways.{tells}
 use Rattle.blocks.specs.Networks.{Leads}
-use Rattle.blocks.specs.Chains.{Chain, end, next-in, turned, with-lead}
+use Rattle.blocks.specs.Chains.{Chain, end, next-in, turned, with-lead, without-lead}
 use Rattle.blocks.proofs.Chains.{chain-exactly}
 use Rattle.blocks.proofs.Choosing.{added-chain}
 
@@ -27,6 +27,10 @@ linked-more s (v ∷ vs) y a b = let r = linked-more v vs y a b in grind arith
 chain-wider : (leads : Leads) (x y s : ℕ) (vs : List ℕ) → Chain leads s vs → Chain (with-lead x y leads) s vs
 chain-wider leads x y s [] c = tt
 chain-wider leads x y s (v ∷ vs) c = let k = c .0 in (grind arith, c .1, chain-wider leads x y v vs (c .2))
+
+pub chain-narrower : (leads : Leads) (x y s : ℕ) (vs : List ℕ) → Chain (without-lead x y leads) s vs → Chain leads s vs
+chain-narrower leads x y s [] c = tt
+chain-narrower leads x y s (v ∷ vs) c = let k = c .0 in (grind arith, c .1, chain-narrower leads x y v vs (c .2))
 
 module _ (leads : Leads) (x y s : ℕ) (fresh : leads x y ≡ false) (fresh-back : leads y x ≡ false) (apart : x ≡ y → ⊥) where
   -- the chain does not use the new link: it is a chain as the sides stood, and y carries the new pair

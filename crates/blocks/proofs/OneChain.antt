@@ -99,9 +99,9 @@ module _ (B N L : ℕ) (ℓ : ℕ → ℕ → ℕ) (limits : Levels B L ℓ) (le
       key n = first-under L (λ a. ℓ a n) (load N leads n)
 
   -- a pair dropped that a post carried, or a bus with more pairs than its limit: some chain from there to a post, turned, makes the sides even
-  pub drop : Crossing B leads → (x y : ℕ) → leads x y ≡ true → (y < B → ℓ 0 y < degree N leads y)
+  pub dropping : Crossing B leads → (x y : ℕ) → leads x y ≡ true → (y < B → ℓ 0 y < degree N leads y)
       → (vs : List ℕ) × (B ≤ end y vs) × Chain (without-lead x y leads) y vs × EvenNetwork B N L ℓ (turned y vs (without-lead x y leads))
-  drop cross x y link heavy =
+  dropping cross x y link heavy =
       elim (least C key N) [
         | inr none ↦ absurd (let q = some in both-ways (C (q .0)) (none (q .0) (q .1)) (q .2))
         | inl best ↦

@@ -8,12 +8,11 @@ use Rattle.std.proofs.shelf.Tests.{cases-lt, lt-ltb, le-ltb}
 use Rattle.std.proofs.shelf.Ways.{tells}
 use Rattle.blocks.specs.Sums.{sum, bit}
 use Rattle.blocks.specs.Sets.{Set}
-use Rattle.blocks.specs.Yards.{pairs}
+use Rattle.blocks.specs.Yards.{Yard, pairs, add, drop}
 use Rattle.blocks.specs.Networks.{Network, leads-in}
-use Rattle.blocks.specs.Chains.{Chain, turn, turned, with-lead, without-lead}
-use Rattle.blocks.specs.Sides.{Sides, pointing, put, turn-side, turn-sides}
+use Rattle.blocks.specs.Chains.{with-lead, without-lead}
+use Rattle.blocks.specs.Sides.{Sides, pointing, put}
 use mathlib.Core.List.{List, [], _∷_}
-use Rattle.blocks.proofs.Chains.{turn-chain}
 use Rattle.blocks.proofs.Sums.{sum-cong, sum-add, sum-swap, sum-none, sum-split}
 use Rattle.blocks.proofs.Pairs.{yard}
 
@@ -56,55 +55,18 @@ module _ (B P : ℕ) (paired by-post : Sides) (X : Set) where
       ∙ sum-cong P (λ p. term b (B + p) + term (B + p) b) (λ p. bit (paired b p && (X b && X (B + p)))) (λ p _. cross b p l)) in
       omega arith
 
--- one side turned
-module _ (B : ℕ) (paired by-post : Sides) (b p : ℕ) (lb : b < B) (pair : paired b p ≡ true) where
-  pub to-bus : by-post b p ≡ true → (x y : ℕ) → pointing B paired (put b p false by-post) x y ≡ turn b (B + p) (pointing B paired by-post) x y
-  to-bus h x y = grind (arith, tells)
-
-  pub to-post : by-post b p ≡ false → (x y : ℕ) → pointing B paired (put b p true by-post) x y ≡ turn (B + p) b (pointing B paired by-post) x y
-  to-post h x y = grind (arith, tells)
-
 -- a pair added
-module _ (B : ℕ) (paired by-post : Sides) (b p : ℕ) (lb : b < B) (fresh : paired b p ≡ false) where
-  pub added-to-post : (x y : ℕ) → pointing B (put b p true paired) (put b p true by-post) x y ≡ with-lead b (B + p) (pointing B paired by-post) x y
+module _ (Y : Yard) (s : Sides) (b p : ℕ) (lb : b < Y .buses) (fresh : Y .paired b p ≡ false) where
+  pub added-to-post : (x y : ℕ) → pointing (Y .buses) (add b p Y .paired) (put b p true s) x y ≡ with-lead b (Y .buses + p) (pointing (Y .buses) (Y .paired) s) x y
   added-to-post x y = grind (arith, tells)
 
-  pub added-to-bus : (x y : ℕ) → pointing B (put b p true paired) (put b p false by-post) x y ≡ with-lead (B + p) b (pointing B paired by-post) x y
+  pub added-to-bus : (x y : ℕ) → pointing (Y .buses) (add b p Y .paired) (put b p false s) x y ≡ with-lead (Y .buses + p) b (pointing (Y .buses) (Y .paired) s) x y
   added-to-bus x y = grind (arith, tells)
 
 -- a pair dropped; what its side's entry then holds is open
-module _ (B : ℕ) (paired by-post : Sides) (b p : ℕ) (lb : b < B) (v : Bool) where
-  pub dropped-from-post : by-post b p ≡ true → (x y : ℕ) → pointing B (put b p false paired) (put b p v by-post) x y ≡ without-lead b (B + p) (pointing B paired by-post) x y
+module _ (Y : Yard) (s : Sides) (b p : ℕ) (lb : b < Y .buses) (v : Bool) where
+  pub dropped-from-post : s b p ≡ true → (x y : ℕ) → pointing (Y .buses) (drop b p Y .paired) (put b p v s) x y ≡ without-lead b (Y .buses + p) (pointing (Y .buses) (Y .paired) s) x y
   dropped-from-post h x y = grind (arith, tells)
 
-  pub dropped-from-bus : by-post b p ≡ false → (x y : ℕ) → pointing B (put b p false paired) (put b p v by-post) x y ≡ without-lead (B + p) b (pointing B paired by-post) x y
+  pub dropped-from-bus : s b p ≡ false → (x y : ℕ) → pointing (Y .buses) (drop b p Y .paired) (put b p v s) x y ≡ without-lead (Y .buses + p) b (pointing (Y .buses) (Y .paired) s) x y
   dropped-from-bus h x y = grind (arith, tells)
-
--- a link turned is a side turned
-pub side-turned : (B : ℕ) (paired by-post : Sides) (x y : ℕ) → pointing B paired by-post x y ≡ true
-    → (a c : ℕ) → pointing B paired (turn-side B x y by-post) a c ≡ turn x y (pointing B paired by-post) a c
-side-turned B paired by-post x y k a c = elim (cases-lt x B) [
-  | inl h ↦
-      let e : B + (y - B) ≡ y = grind (arith, tells) in
-      let p : paired x (y - B) ≡ true = grind (arith, tells) in
-      let q : by-post x (y - B) ≡ true = grind (arith, tells) in
-      let r = to-bus B paired by-post x (y - B) h p q a c in
-      ap (λ b. pointing B paired (cond b (put x (y - B) false by-post) (put y (x - B) true by-post)) a c) (lt-ltb x B h) ∙ r ∙ ap (λ z. turn x z (pointing B paired by-post) a c) e
-  | inr h ↦
-      let e : B + (x - B) ≡ x = omega arith in
-      let l : y < B = grind (arith, tells) in
-      let p : paired y (x - B) ≡ true = grind (arith, tells) in
-      let q : by-post y (x - B) ≡ false = grind (arith, tells) in
-      let r = to-post B paired by-post y (x - B) l p q a c in
-      ap (λ b. pointing B paired (cond b (put x (y - B) false by-post) (put y (x - B) true by-post)) a c) (le-ltb x B h) ∙ r ∙ ap (λ z. turn z y (pointing B paired by-post) a c) e
-]
-
--- a chain turned is its sides turned
-pub sides-turned : (B : ℕ) (paired : Sides) (x : ℕ) (vs : List ℕ) (by-post : Sides) → Chain (pointing B paired by-post) x vs
-    → pointing B paired (turn-sides B x vs by-post) ≡ turned x vs (pointing B paired by-post)
-sides-turned B paired x [] by-post c = refl
-sides-turned B paired x (y ∷ vs) by-post c =
-    let e : pointing B paired (turn-side B x y by-post) ≡ turn x y (pointing B paired by-post) = fun-ext (λ a. fun-ext (λ b. side-turned B paired by-post x y (c .0) a b)) in
-    let d = turn-chain (pointing B paired by-post) x y y vs (c .1) (c .2) in
-    let d2 = subst (λ f. Chain f y vs) (sym e) d in
-    sides-turned B paired y vs (turn-side B x y by-post) d2 ∙ ap (turned y vs) e

@@ -10,6 +10,7 @@ use Rattle.blocks.specs.Limits.{Limits}
 use Rattle.blocks.specs.Yards.{Yard, nodes, exchange}
 use Rattle.blocks.specs.Blocks.{shortfall-at}
 use Rattle.blocks.specs.Ranks.{rank}
+use Rattle.blocks.specs.Sides.{Sides, Even, post-load}
 
 pub record Pair : Type 0 where
   pub bus : ℕ
@@ -64,6 +65,19 @@ three-two = 2 ⇄ 1 ∷ three-two-but-one
 abbrev pub none : ℤ
 none = negsuc 0
 
+-- three and two, every pair
+abbrev pub three-two-yard : Example
+three-two-yard = record {
+  buses = 3;
+  posts = 2;
+  pairs-of = three-two;
+  exchanged = false;
+  bus-limit = 1;
+  step = 1;
+  ranks = pos 1 ∷ pos 1 ∷ pos 1 ∷ pos 1 ∷ pos 1 ∷ [];
+  shortfalls = 3 ∷ 1 ∷ [];
+}
+
 unfoldable pub examples : List Example
 examples =
     -- 1. one bus, one post, no pair
@@ -106,16 +120,7 @@ examples =
       shortfalls = 2 ∷ [];
     }
     -- 7. that pair added: bus 2, the named one, went up by two
-    ∷ record {
-      buses = 3;
-      posts = 2;
-      pairs-of = three-two;
-      exchanged = false;
-      bus-limit = 1;
-      step = 1;
-      ranks = pos 1 ∷ pos 1 ∷ pos 1 ∷ pos 1 ∷ pos 1 ∷ [];
-      shortfalls = 3 ∷ 1 ∷ [];
-    }
+    ∷ three-two-yard
     -- 8. three buses at one post, bus limit 0; then with post limits of twice the level
     ∷ record {
       buses = 3;
@@ -148,4 +153,29 @@ examples =
       ranks = pos 1 ∷ pos 1 ∷ pos 1 ∷ pos 1 ∷ pos 1 ∷ [];
       shortfalls = 4 ∷ 1 ∷ [];
     }
+    ∷ []
+
+-- Sides of a yard, given by the pairs that the posts carry (its bus carries any other): what each post carries, and whether the sides
+-- are even. From the level `calm` on, no post is over its limit.
+pub record SideExample : Type 0 where
+  pub yard : Example
+  pub by-posts : List Pair
+  pub loads : List ℕ
+  pub calm : ℕ
+  pub even : Bool
+
+abbrev pub sides-of : SideExample → Sides
+sides-of c = listed (c .by-posts)
+
+-- what it claims
+pub record RightSides (c : SideExample) : Type 0 where
+  pub of-loads : (p : ℕ) → p < yard-of (c .yard) .posts → post-load (yard-of (c .yard)) (sides-of c) p ≡ getD (c .loads) p 0
+  pub is-even : c .even ≡ true → Even (yard-of (c .yard)) (limits-of (c .yard)) (sides-of c)
+  pub not-even : c .even ≡ false → Even (yard-of (c .yard)) (limits-of (c .yard)) (sides-of c) → ⊥
+
+-- 10. each bus carries one pair, and the posts carry 2 and 1, or 3 and none
+unfoldable pub side-examples : List SideExample
+side-examples =
+    record { yard = three-two-yard; by-posts = 0 ⇄ 0 ∷ 1 ⇄ 0 ∷ 2 ⇄ 1 ∷ []; loads = 2 ∷ 1 ∷ []; calm = 2; even = true }
+    ∷ record { yard = three-two-yard; by-posts = 0 ⇄ 0 ∷ 1 ⇄ 0 ∷ 2 ⇄ 0 ∷ []; loads = 3 ∷ 0 ∷ []; calm = 3; even = false }
     ∷ []

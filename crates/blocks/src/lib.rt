@@ -5,8 +5,8 @@ ghost use lib.IntN.{pos};
 ghost use Rattle.std.specs.shelf.Lists.{All};
 ghost use Rattle.blocks.specs.Sets.{nobody};
 ghost use Rattle.blocks.specs.Blocks.{block, shortfall};
-ghost use Rattle.blocks.specs.Examples.{Right, examples};
-ghost use Rattle.blocks.specs.Theorems.{Block-exists, Block-unique, Shortfall-is, Shortfall-unique, Blocks-nested, Block-empty, Rank-tells, Shortfall-added, Shortfall-dropped, Ranks-added, Ranks-dropped};
+ghost use Rattle.blocks.specs.Examples.{Right, RightSides, examples, side-examples};
+ghost use Rattle.blocks.specs.Theorems.{Block-exists, Block-unique, Shortfall-is, Shortfall-unique, Blocks-nested, Block-empty, Rank-tells, Shortfall-added, Shortfall-dropped, Ranks-added, Ranks-dropped, Sides-tell-block, Sides-tell-shortfall, Chain-moves, Chain-exactly, Addition-turns-one-chain, Drop-turns-one-chain, Even-exists, Settling-ends};
 
 // Every level has a block, and only one.
 pub fn block_exists_and_is_unique()
@@ -48,7 +48,32 @@ pub fn a_pair_moves_one_common_rank()
     ensures dropped { λ _. ⌜ Ranks-dropped (pos 1) ⌝ }
 {}
 
-// The example yards have the ranks and shortfalls that their table says.
+// With even sides, chains and loads tell blocks and shortfalls.
+pub fn even_sides_tell_block_and_shortfall()
+    ensures block { λ _. ⌜ Sides-tell-block 255 ⌝ }
+    ensures shortfall { λ _. ⌜ Sides-tell-shortfall 255 ⌝ }
+{}
+
+// A chain turned moves one load from its last node to its first, and turns nothing else.
+pub fn a_chain_turned_moves_one_load()
+    ensures loads { λ _. ⌜ Chain-moves 1 ⌝ }
+    ensures exactly { λ _. ⌜ Chain-exactly ⌝ }
+{}
+
+// One pair more or less: one chain of the sides as they stood, turned, makes them even again.
+pub fn a_pair_turns_one_chain()
+    ensures added { λ _. ⌜ Addition-turns-one-chain ⌝ }
+    ensures dropped { λ _. ⌜ Drop-turns-one-chain ⌝ }
+{}
+
+// Every yard has even sides, and turning chains from under to over comes to an end.
+pub fn settling_ends()
+    ensures exist { λ _. ⌜ Even-exists ⌝ }
+    ensures falls { λ _. ⌜ Settling-ends 255 ⌝ }
+{}
+
+// The example yards have the ranks and shortfalls that their table says, and the sides in theirs are even or not as it says.
 pub fn example_yards()
-    ensures { λ _. ⌜ All Right examples ⌝ }
+    ensures ranks { λ _. ⌜ All Right examples ⌝ }
+    ensures sides { λ _. ⌜ All RightSides side-examples ⌝ }
 {}
