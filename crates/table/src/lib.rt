@@ -1,2 +1,6 @@
 // The table over any store and any rule.
 pub mod faults;
+pub mod guards;
+pub mod networks;
+pub mod queues;
+pub mod searches;

@@ -1,0 +1,68 @@
+-- A search: what its queue and its marks hold, and what it promises.
+use Prim.Native.Nat.{ℕ, _+_, _<_, _≤_}
+use mathlib.Core.Path.{_≡_}
+use mathlib.Core.Logic.{_⊎_}
+use mathlib.Core.Bool.{Bool, true, false}
+use mathlib.Core.List.{List}
+use lib.Dec.{ltb}
+use lib.ListN.{length, getD, set}
+use Rattle.std.specs.declared.option.Option.{Option}
+use Rattle.std.specs.declared.option.Option.the-variants.{Some, None}
+use Rattle.blocks.specs.Sums.{sum, bit}
+use Rattle.blocks.specs.Networks.{Leads}
+use Rattle.table.specs.declared.queues.Queue.{Queue}
+
+-- the i-th node found, and the place that it was found from
+abbrev pub node : Queue → ℕ → ℕ
+node q i = getD (q .nodes) i 0
+
+abbrev pub from : Queue → ℕ → ℕ
+from q i = getD (q .from) i 0
+
+-- a node is marked
+abbrev pub marked : List ℕ → ℕ → Bool
+marked marks n = ltb 0 (getD marks n 0)
+
+-- Between two steps of a search over N nodes: the marked nodes are those found, each once; each but a start was found from an earlier
+-- one that leads to it; what the nodes before `next` lead to is marked.
+pub record Searched (leads : Leads) (N : ℕ) (q : Queue) (marks : List ℕ) : Type 0 where
+  pub long : N ≤ length marks
+  pub few : N ≤ 512
+  pub places : (length (q .nodes) ≡ 512) × (length (q .from) ≡ 512)
+  pub counted : q .len ≡ sum N (λ n. bit (marked marks n))
+  pub followed : q .next ≤ q .len
+  pub inside : (i : ℕ) → i < q .len → node q i < N
+  pub once : (i j : ℕ) → i < q .len → j < q .len → node q i ≡ node q j → i ≡ j
+  pub found : (i : ℕ) → i < q .len → (from q i ≡ i) ⊎ ((from q i < i) × (leads (node q (from q i)) (node q i) ≡ true))
+  pub marks-found : (i : ℕ) → i < q .len → marked marks (node q i) ≡ true
+  pub found-marked : (n : ℕ) → n < N → marked marks n ≡ true → (i : ℕ) × (i < q .len) × (node q i ≡ n)
+  pub closed : (i y : ℕ) → i < q .next → y < N → leads (node q i) y ≡ true → marked marks y ≡ true
+
+-- one node put behind the others
+pub record Pushed (q r : Queue) (y f : ℕ) : Type 0 where
+  pub nodes : r .nodes ≡ set (q .nodes) (q .len) y
+  pub froms : r .from ≡ set (q .from) (q .len) f
+  pub len : r .len ≡ q .len + 1
+  pub next : r .next ≡ q .next
+
+-- the queue has grown by nodes that are no starts
+pub record Grown (q r : Queue) : Type 0 where
+  pub longer : q .len ≤ r .len
+  pub same-node : (i : ℕ) → i < q .len → node r i ≡ node q i
+  pub same-from : (i : ℕ) → i < q .len → from r i ≡ from q i
+  pub no-start : (i : ℕ) → q .len ≤ i → i < r .len → from r i < i
+
+-- from the queue q to the queue r: either the place of a node that was looked for, or all that was found has been followed and none
+-- of what was added was looked for
+pub record Sought (leads : Leads) (N : ℕ) (wanted : ℕ → Bool) (q r : Queue) (marks : List ℕ) (answer : Option ℕ) : Type 0 where
+  pub state : Searched leads N r marks
+  pub grown : Grown q r
+  pub finds : (place : ℕ) → answer ≡ Some place → (q .len ≤ place) × (place < r .len) × (wanted (node r place) ≡ true)
+  pub misses : answer ≡ None → (r .next ≡ r .len) × ((i : ℕ) → q .len ≤ i → i < r .len → wanted (node r i) ≡ false)
+
+-- the same of one node's leads: at the end that node, too, has been followed
+pub record Followed (leads : Leads) (N : ℕ) (wanted : ℕ → Bool) (q r : Queue) (marks : List ℕ) (answer : Option ℕ) : Type 0 where
+  pub state : Searched leads N r marks
+  pub grown : Grown q r
+  pub finds : (place : ℕ) → answer ≡ Some place → (q .len ≤ place) × (place < r .len) × (wanted (node r place) ≡ true)
+  pub misses : answer ≡ None → (r .next ≡ q .next + 1) × ((i : ℕ) → q .len ≤ i → i < r .len → wanted (node r i) ≡ false)
