@@ -3,19 +3,25 @@ use Prim.Native.Nat.{ℕ, zero, suc, _+_, _-_, _<_, _≤_}
 use mathlib.Core.Path.{_≡_, refl, sym, ap, subst, _∙_}
 use mathlib.Core.Logic.{_⊎_, inl, inr}
 use mathlib.Core.Bool.{Bool, true, false, cond}
-use mathlib.Core.List.{List}
+use mathlib.Core.List.{List, []}
 use native.Mathlib.Omega.{arith}
 use lib.Dec.{ltb, eqb}
-use lib.ListN.{length, getD, set, length-set}
+use lib.ListN.{length, getD, set, replicate, length-set, length-replicate}
 use lib.Seq.{getD-set-same, getD-set-other}
 use Rattle.std.proofs.shelf.Tests.{cases-bool, cases-eq, cases-lt, both-ways, ltb-true, lt-ltb, true≢false}
 use Rattle.std.specs.declared.option.Option.{Option}
 use Rattle.std.specs.declared.option.Option.the-variants.{Some, None}
 use Rattle.blocks.specs.Sums.{sum, bit}
-use Rattle.blocks.specs.Networks.{Leads}
-use Rattle.blocks.proofs.Sums.{sum-one, sum-bound, sum-lt}
+use Rattle.blocks.specs.Networks.{Leads, Walk}
+use Rattle.blocks.proofs.Sums.{sum-one, sum-bound, sum-lt, sum-none}
+use Rattle.blocks.proofs.Chains.{chain-walk}
+use Rattle.blocks.proofs.Queues.{chain-from-start}
+use Rattle.std.specs.declared.result.Result.{Result}
+use Rattle.std.specs.declared.result.Result.the-variants.{Ok, Err}
+use Rattle.table.specs.declared.faults.TableFault.{TableFault}
+use Rattle.table.specs.declared.faults.TableFault.the-variants.{Bytes, Node}
 use Rattle.table.specs.declared.queues.Queue.{Queue}
-use Rattle.table.specs.Searches.{node, from, marked, Searched, Pushed, Grown, Followed, Sought}
+use Rattle.table.specs.Searches.{node, from, marked, Searched, Pushed, Grown, Started, Followed, Sought, AllNodes, FirstStray, AllStarted, ChainFound, NothingFound, Reached}
 
 bit-one : (t : Bool) → bit t ≤ 1
 bit-one t = grind arith
@@ -324,3 +330,253 @@ module _ (leads : Leads) (N : ℕ) (wanted : ℕ → Bool) (q : Queue) where
     where
       no-place : (p : ℕ) → _≡_ {A = Option ℕ} None (Some p) → ⊥
       no-place p h = let z : _≡_ {A = ℕ} 0 1 = cc in omega arith
+
+module _ (leads : Leads) (N : ℕ) (q : Queue) (marks : List ℕ) (y : ℕ) (state : Searched leads N q marks) where
+  pub started-not : marked marks y ≡ true → Started leads N q q marks marks y
+  started-not m = record {
+    state = state;
+    there = m;
+    longer = omega arith;
+    next = refl;
+    same-node = λ i _. refl;
+    same-from = λ i _. refl;
+    is-start = λ i h l. absurd (omega arith);
+    still = λ n h. h;
+  }
+
+  pub started : y < N → marked marks y ≡ false → (r : Queue) (marks' : List ℕ) → marks' ≡ set marks y 1 → Pushed q r y (q .len) → Started leads N q r marks marks' y
+  started ly fresh r marks' e pushed =
+      let keep = pushed-keeps leads N q r marks y (q .len) state ly fresh pushed (inl refl) in
+      let new = pushed-new leads N q r marks y (q .len) state ly fresh pushed (inl refl) in
+      record {
+        state = subst (Searched leads N r) (sym e) (pushed-state leads N q r marks y (q .len) state ly fresh pushed (inl refl));
+        there = ap (λ m. marked m y) e ∙ ap (ltb 0) (getD-set-same marks y 1 0 (omega (arith, state .long)));
+        longer = omega (arith, pushed .len);
+        next = pushed .next;
+        same-node = λ i l. keep i l .0;
+        same-from = λ i l. keep i l .1;
+        is-start = λ i h l.
+            let s : i ≡ q .len = omega (arith, pushed .len) in
+            (ap (node r) s ∙ new .0, ap (from r) s ∙ new .1 ∙ sym s);
+        still = λ n m. ap (λ k. marked k n) e ∙ (elim (cases-eq n y) [
+          | inl i ↦ ap (marked (set marks y 1)) i ∙ ap (ltb 0) (getD-set-same marks y 1 0 (omega (arith, state .long)))
+          | inr d ↦ ap (ltb 0) (getD-set-other marks y n 1 0 d) ∙ m
+        ]);
+      }
+
+all-zero : (n i : ℕ) → _≡_ {A = ℕ} (getD (replicate n 0) i 0) 0
+all-zero zero i = refl
+all-zero (suc n) zero = refl
+all-zero (suc n) (suc i) = all-zero n i
+
+-- nothing found yet, over cleared bytes
+pub searched-none : (leads : Leads) (N : ℕ) (q : Queue) (marks : List ℕ) (n : ℕ) → N ≤ 512 → N ≤ n → marks ≡ replicate n 0 → q .nodes ≡ replicate 512 0 → q .from ≡ replicate 512 0 → q .len ≡ 0 → q .next ≡ 0
+    → Searched leads N q marks
+searched-none leads N q marks n few long em en ef el ex =
+    let unmarked : (k : ℕ) → marked marks k ≡ false = λ k. is-unmarked marks k (ap (λ l. getD l k 0) em ∙ all-zero n k) in
+    record {
+      long = omega (arith, ap length em, length-replicate {A = ℕ} n 0);
+      few = few;
+      places = (ap length en ∙ length-replicate {A = ℕ} 512 0, ap length ef ∙ length-replicate {A = ℕ} 512 0);
+      counted = el ∙ sym (sum-none N (λ k. bit (marked marks k)) (λ k _. ap bit (unmarked k)));
+      followed = omega arith;
+      inside = λ i l. absurd (omega arith);
+      once = λ i j l. absurd (omega arith);
+      found = λ i l. absurd (omega arith);
+      marks-found = λ i l. absurd (omega arith);
+      found-marked = λ k l m. absurd (both-ways (marked marks k) (unmarked k) m);
+      closed = λ i y l. absurd (omega arith);
+    }
+
+-- the first k of the starts are in
+pub record Starting (leads : Leads) (N : ℕ) (wanted : ℕ → Bool) (starts : List ℕ) (k : ℕ) (r : Queue) (marks : List ℕ) : Type 0 where
+  pub state : Searched leads N r marks
+  pub next : r .next ≡ 0
+  pub only : (i : ℕ) → i < r .len → (from r i ≡ i) × ((j : ℕ) × (j < length starts) × (getD starts j 0 ≡ node r i))
+  pub there : (i : ℕ) → i < k → marked marks (getD starts i 0) ≡ true
+  pub unwanted : (i : ℕ) → i < r .len → wanted (node r i) ≡ false
+
+module _ (leads : Leads) (N : ℕ) (wanted : ℕ → Bool) (starts : List ℕ) where
+  pub starting-none : (r : Queue) (marks : List ℕ) → Searched leads N r marks → r .len ≡ 0 → r .next ≡ 0 → Starting leads N wanted starts 0 r marks
+  starting-none r marks state el ex = record {
+    state = state;
+    next = ex;
+    only = λ i l. absurd (omega arith);
+    there = λ i l. absurd (omega arith);
+    unwanted = λ i l. absurd (omega arith);
+  }
+
+  module _ (k : ℕ) (r s : Queue) (marks marks' : List ℕ) (lk : k < length starts) (b : Started leads N r s marks marks' (getD starts k 0)) where
+    starting-only : ((i : ℕ) → i < r .len → (from r i ≡ i) × ((j : ℕ) × (j < length starts) × (getD starts j 0 ≡ node r i)))
+        → (i : ℕ) → i < s .len → (from s i ≡ i) × ((j : ℕ) × (j < length starts) × (getD starts j 0 ≡ node s i))
+    starting-only a i l = elim (cases-lt i (r .len)) [
+      | inl h ↦
+          let o = a i h in
+          let e = b .same-node i h in
+          (b .same-from i h ∙ o .0, (o .1 .0, o .1 .1, o .1 .2 ∙ sym e))
+      | inr h ↦ let o = b .is-start i h l in (o .1, (k, lk, sym (o .0)))
+    ]
+
+    pub starting-more : Starting leads N wanted starts k r marks → wanted (getD starts k 0) ≡ false → Starting leads N wanted starts (k + 1) s marks'
+    starting-more a unw = record {
+      state = b .state;
+      next = b .next ∙ a .next;
+      only = starting-only (a .only);
+      there = λ i l. elim (cases-eq i k) [
+        | inl e ↦ ap (λ z. marked marks' (getD starts z 0)) e ∙ b .there
+        | inr d ↦ b .still (getD starts i 0) (a .there i (omega arith))
+      ];
+      unwanted = λ i l. elim (cases-lt i (r .len)) [
+        | inl h ↦ ap wanted (b .same-node i h) ∙ a .unwanted i h
+        | inr h ↦ ap wanted (b .is-start i h l .0) ∙ unw
+      ];
+    }
+
+    pub starting-found : Starting leads N wanted starts k r marks → wanted (getD starts k 0) ≡ true → AllStarted leads N wanted starts s marks' (Some (getD starts k 0))
+    starting-found a w = record {
+      state = b .state;
+      next = b .next ∙ a .next;
+      only = starting-only (a .only);
+      finds = λ n h. let e : getD starts k 0 ≡ n = some-is h in ((k, lk, e), ap wanted (sym e) ∙ w);
+      misses = λ h. absurd (no-none h);
+    }
+      where
+        some-is : {n : ℕ} → _≡_ {A = Option ℕ} (Some (getD starts k 0)) (Some n) → getD starts k 0 ≡ n
+        some-is h = cc
+
+        no-none : _≡_ {A = Option ℕ} (Some (getD starts k 0)) None → ⊥
+        no-none h = let z : _≡_ {A = ℕ} 0 1 = cc in omega arith
+
+  pub starting-end : (k : ℕ) (r : Queue) (marks : List ℕ) → Starting leads N wanted starts k r marks → length starts ≤ k → AllStarted leads N wanted starts r marks None
+  starting-end k r marks a all = record {
+    state = a .state;
+    next = a .next;
+    only = a .only;
+    finds = λ n h. absurd (no-some n h);
+    misses = λ _. ((λ i l. a .there i (omega arith)), a .unwanted);
+  }
+    where
+      no-some : (n : ℕ) → _≡_ {A = Option ℕ} None (Some n) → ⊥
+      no-some n h = let z : _≡_ {A = ℕ} 0 1 = cc in omega arith
+
+  -- a start of the grown queue is one of the starts
+  started-at : (q r : Queue) → ((i : ℕ) → i < q .len → (from q i ≡ i) × ((j : ℕ) × (j < length starts) × (getD starts j 0 ≡ node q i))) → Grown q r
+      → (i : ℕ) → i < r .len → from r i ≡ i → (j : ℕ) × (j < length starts) × (getD starts j 0 ≡ node r i)
+  started-at q r only grown i l e = elim (cases-lt i (q .len)) [
+    | inl h ↦ let o = only i h .1 in (o .0, o .1, o .2 ∙ sym (grown .same-node i h))
+    | inr h ↦ absurd (omega (arith, grown .no-start i h l))
+  ]
+
+  -- what the whole search answers
+  module _ (q r : Queue) (marks marks' : List ℕ) (a : AllStarted leads N wanted starts q marks None) (b : Sought leads N wanted q r marks' None) where
+    pub nothing-found : AllNodes N starts → NothingFound leads N wanted starts
+    nothing-found inside = record {
+      set-of = marked marks';
+      holds = λ i l. still (getD starts i 0) (inside i l) (a .misses refl .0 i l);
+      closed = λ x y lx ly m k.
+          let o = b .state .found-marked x lx m in
+          let lo = o .1 in
+          b .state .closed (o .0) y (omega (arith, b .misses refl .0)) ly (ap (λ z. leads z y) (o .2) ∙ k);
+      reached = λ n l m.
+          let o = b .state .found-marked n l m in
+          let c = from-a-start (o .0) (o .1) in
+          (c .0, c .1, subst (λ z. Walk leads (getD starts (c .0) 0) z) (o .2) (c .2));
+      unwanted = λ n l m.
+          let o = b .state .found-marked n l m in
+          ap wanted (sym (o .2)) ∙ unwanted-at (o .0) (o .1);
+    }
+      where
+        still : (n : ℕ) → n < N → marked marks n ≡ true → marked marks' n ≡ true
+        still n l m =
+            let o = a .state .found-marked n l m in
+            let lo = o .1 in
+            sym (ap (marked marks') (b .grown .same-node (o .0) lo ∙ o .2)) ∙ b .state .marks-found (o .0) (omega (arith, b .grown .longer))
+
+        unwanted-at : (i : ℕ) → i < r .len → wanted (node r i) ≡ false
+        unwanted-at i l = elim (cases-lt i (q .len)) [
+          | inl h ↦ ap wanted (b .grown .same-node i h) ∙ a .misses refl .1 i h
+          | inr h ↦ b .misses refl .1 i h l
+        ]
+
+        from-a-start : (i : ℕ) → i < r .len → (j : ℕ) × (j < length starts) × Walk leads (getD starts j 0) (node r i)
+        from-a-start i l =
+            let c = chain-from-start leads (r .len) (node r) (from r) (record { once = b .state .once; links = b .state .found }) i l in
+            let s = started-at q r (a .only) (b .grown) (c .1) (omega (arith, c .3)) (c .4) in
+            (s .0, s .1, subst (λ z. Walk leads z (node r i)) (sym (s .2)) (subst (λ z. Walk leads (node r (c .1)) z) (c .5) (chain-walk leads (node r (c .1)) (c .0) (c .2))))
+
+  pub chain-found : (q r : Queue) (marks marks' : List ℕ) (place : ℕ) → AllStarted leads N wanted starts q marks None → Sought leads N wanted q r marks' (Some place) → ChainFound leads wanted starts (node r place)
+  chain-found q r marks marks' place a b =
+      let f = b .finds place refl in
+      let c = chain-from-start leads (r .len) (node r) (from r) (record { once = b .state .once; links = b .state .found }) place (f .1) in
+      let s = started-at q r (a .only) (b .grown) (c .1) (omega (arith, c .3, f .1)) (c .4) in
+      record {
+        first = node r (c .1);
+        rest = c .0;
+        from-start = s;
+        chain = c .2;
+        ends = c .5;
+        is-wanted = f .2;
+      }
+
+  pub chain-of-one : (n : ℕ) → ((j : ℕ) × (j < length starts) × (getD starts j 0 ≡ n)) × (wanted n ≡ true) → ChainFound leads wanted starts n
+  chain-of-one n h = record { first = n; rest = []; from-start = h .0; chain = tt; ends = refl; is-wanted = h .1 }
+
+-- what a search from some starts answers, by how it ends
+module _ (leads : Leads) (N : ℕ) (wanted : ℕ → Bool) (starts : List ℕ) (bytes : ℕ) where
+  not-ok : {a : Option ℕ} {f : TableFault} → _≡_ {A = Result (Option ℕ) TableFault} (Err f) (Ok a) → ⊥
+  not-ok {a} {f} h = let z : _≡_ {A = ℕ} 0 1 = cc in omega arith
+
+  not-err : {a : Option ℕ} {f : TableFault} → _≡_ {A = Result (Option ℕ) TableFault} (Ok a) (Err f) → ⊥
+  not-err {a} {f} h = let z : _≡_ {A = ℕ} 0 1 = cc in omega arith
+
+  pub reached-short : bytes < N → Reached leads N wanted starts bytes (Err (Bytes bytes))
+  reached-short h = record {
+    short = λ _. refl;
+    stray = λ l. absurd (omega arith);
+    answers = λ l. absurd (omega arith);
+    finds = λ n e. absurd (not-ok e);
+    misses = λ e. absurd (not-ok e);
+  }
+
+  pub reached-stray : (s : ℕ) → N ≤ bytes → FirstStray N starts s → Reached leads N wanted starts bytes (Err (Node s))
+  reached-stray s h f =
+      let lf = f .3 in
+      record {
+        short = λ l. absurd (omega arith);
+        stray = λ _ i li out before.
+            let same : f .0 ≡ i = elim (cases-lt (f .0) i) [
+              | inl l ↦ absurd (let b = before (f .0) l in let e = f .2 in omega arith)
+              | inr l ↦ elim (cases-eq (f .0) i) [ inl e ↦ e | inr d ↦ absurd (let b = f .4 i (omega arith) in omega arith) ]
+            ] in
+            let e : s ≡ getD starts i 0 = sym (f .2) ∙ ap (λ k. getD starts k 0) same in
+            ap (λ k. Err (Node k)) e;
+        answers = λ _ all. absurd (let b = all (f .0) (f .1) in let e = f .2 in omega arith);
+        finds = λ n e. absurd (not-ok e);
+        misses = λ e. absurd (not-ok e);
+      }
+
+  inside-all : N ≤ bytes → AllNodes N starts → (r : Result (Option ℕ) TableFault)
+      → ((f : TableFault) → r ≡ Err f → ⊥) → ((n : ℕ) → r ≡ Ok (Some n) → ChainFound leads wanted starts n) → (r ≡ Ok None → NothingFound leads N wanted starts)
+      → Reached leads N wanted starts bytes r
+  inside-all h all r a b c = record {
+    short = λ l. absurd (omega arith);
+    stray = λ _ i li out before. absurd (let q = all i li in omega arith);
+    answers = λ _ _. a;
+    finds = b;
+    misses = c;
+  }
+
+  pub reached-found : N ≤ bytes → AllNodes N starts → (n : ℕ) → ChainFound leads wanted starts n → Reached leads N wanted starts bytes (Ok (Some n))
+  reached-found h all n c = inside-all h all (Ok (Some n)) (λ f e. not-err e) (λ m e. subst (ChainFound leads wanted starts) (same e) c) (λ e. absurd (differ e))
+    where
+      same : {m : ℕ} → _≡_ {A = Result (Option ℕ) TableFault} (Ok (Some n)) (Ok (Some m)) → n ≡ m
+      same e = cc
+
+      differ : _≡_ {A = Result (Option ℕ) TableFault} (Ok (Some n)) (Ok None) → ⊥
+      differ e = let z : _≡_ {A = ℕ} 0 1 = cc in omega arith
+
+  pub reached-none : N ≤ bytes → AllNodes N starts → NothingFound leads N wanted starts → Reached leads N wanted starts bytes (Ok None)
+  reached-none h all c = inside-all h all (Ok None) (λ f e. not-err e) (λ m e. absurd (differ e)) (λ _. c)
+    where
+      differ : {m : ℕ} → _≡_ {A = Result (Option ℕ) TableFault} (Ok None) (Ok (Some m)) → ⊥
+      differ {m} e = let z : _≡_ {A = ℕ} 0 1 = cc in omega arith

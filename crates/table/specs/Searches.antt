@@ -9,7 +9,13 @@ use lib.ListN.{length, getD, set}
 use Rattle.std.specs.declared.option.Option.{Option}
 use Rattle.std.specs.declared.option.Option.the-variants.{Some, None}
 use Rattle.blocks.specs.Sums.{sum, bit}
-use Rattle.blocks.specs.Networks.{Leads}
+use Rattle.blocks.specs.Sets.{Set}
+use Rattle.blocks.specs.Networks.{Leads, Walk}
+use Rattle.blocks.specs.Chains.{Chain, end}
+use Rattle.std.specs.declared.result.Result.{Result}
+use Rattle.std.specs.declared.result.Result.the-variants.{Ok, Err}
+use Rattle.table.specs.declared.faults.TableFault.{TableFault}
+use Rattle.table.specs.declared.faults.TableFault.the-variants.{Bytes, Node}
 use Rattle.table.specs.declared.queues.Queue.{Queue}
 
 -- the i-th node found, and the place that it was found from
@@ -66,3 +72,56 @@ pub record Followed (leads : Leads) (N : ℕ) (wanted : ℕ → Bool) (q r : Que
   pub grown : Grown q r
   pub finds : (place : ℕ) → answer ≡ Some place → (q .len ≤ place) × (place < r .len) × (wanted (node r place) ≡ true)
   pub misses : answer ≡ None → (r .next ≡ q .next + 1) × ((i : ℕ) → q .len ≤ i → i < r .len → wanted (node r i) ≡ false)
+
+-- from the queue q to the queue r: a node has become a start, unless it was marked already
+pub record Started (leads : Leads) (N : ℕ) (q r : Queue) (marks marks' : List ℕ) (start : ℕ) : Type 0 where
+  pub state : Searched leads N r marks'
+  pub there : marked marks' start ≡ true
+  pub longer : q .len ≤ r .len
+  pub next : r .next ≡ q .next
+  pub same-node : (i : ℕ) → i < q .len → node r i ≡ node q i
+  pub same-from : (i : ℕ) → i < q .len → from r i ≡ from q i
+  pub is-start : (i : ℕ) → q .len ≤ i → i < r .len → (node r i ≡ start) × (from r i ≡ i)
+  pub still : (n : ℕ) → marked marks n ≡ true → marked marks' n ≡ true
+
+-- a chain from one of the starts to a node that was looked for
+pub record ChainFound (leads : Leads) (wanted : ℕ → Bool) (starts : List ℕ) (last : ℕ) : Type 0 where
+  pub first : ℕ
+  pub rest : List ℕ
+  pub from-start : (i : ℕ) × (i < length starts) × (getD starts i 0 ≡ first)
+  pub chain : Chain leads first rest
+  pub ends : end first rest ≡ last
+  pub is-wanted : wanted last ≡ true
+
+-- a set that holds the starts, is closed under the leads, holds only what is reached from a start, and nothing that was looked for
+pub record NothingFound (leads : Leads) (N : ℕ) (wanted : ℕ → Bool) (starts : List ℕ) : Type 0 where
+  pub set-of : Set
+  pub holds : (i : ℕ) → i < length starts → set-of (getD starts i 0) ≡ true
+  pub closed : (x y : ℕ) → x < N → y < N → set-of x ≡ true → leads x y ≡ true → set-of y ≡ true
+  pub reached : (n : ℕ) → n < N → set-of n ≡ true → (i : ℕ) × (i < length starts) × Walk leads (getD starts i 0) n
+  pub unwanted : (n : ℕ) → n < N → set-of n ≡ true → wanted n ≡ false
+
+-- every start is a node
+abbrev pub AllNodes : ℕ → List ℕ → Type 0
+AllNodes N starts = (i : ℕ) → i < length starts → getD starts i 0 < N
+
+-- the first start that is no node
+abbrev pub FirstStray : ℕ → List ℕ → ℕ → Type 0
+FirstStray N starts s = (i : ℕ) × (i < length starts) × (getD starts i 0 ≡ s) × (N ≤ s) × ((j : ℕ) → j < i → getD starts j 0 < N)
+
+-- all that is found are starts, and these are they; one of them that was looked for, or none is
+pub record AllStarted (leads : Leads) (N : ℕ) (wanted : ℕ → Bool) (starts : List ℕ) (r : Queue) (marks : List ℕ) (answer : Option ℕ) : Type 0 where
+  pub state : Searched leads N r marks
+  pub next : r .next ≡ 0
+  pub only : (i : ℕ) → i < r .len → (from r i ≡ i) × ((j : ℕ) × (j < length starts) × (getD starts j 0 ≡ node r i))
+  pub finds : (n : ℕ) → answer ≡ Some n → ((j : ℕ) × (j < length starts) × (getD starts j 0 ≡ n)) × (wanted n ≡ true)
+  pub misses : answer ≡ None → ((i : ℕ) → i < length starts → marked marks (getD starts i 0) ≡ true) × ((i : ℕ) → i < r .len → wanted (node r i) ≡ false)
+
+-- What a search from some starts answers, over so many working bytes: refused by too few of them, then by the first start that is no
+-- node; else a node that was looked for and is reached, or none.
+pub record Reached (leads : Leads) (N : ℕ) (wanted : ℕ → Bool) (starts : List ℕ) (bytes : ℕ) (r : Result (Option ℕ) TableFault) : Type 0 where
+  pub short : bytes < N → r ≡ Err (Bytes bytes)
+  pub stray : N ≤ bytes → (i : ℕ) → i < length starts → N ≤ getD starts i 0 → ((j : ℕ) → j < i → getD starts j 0 < N) → r ≡ Err (Node (getD starts i 0))
+  pub answers : N ≤ bytes → AllNodes N starts → (f : TableFault) → r ≡ Err f → ⊥
+  pub finds : (n : ℕ) → r ≡ Ok (Some n) → ChainFound leads wanted starts n
+  pub misses : r ≡ Ok None → NothingFound leads N wanted starts

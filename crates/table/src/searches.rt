@@ -1,9 +1,11 @@
 ghost use mathlib.Core.Path.{_≡_};
 ghost use mathlib.Core.Bool.{true, false};
 ghost use Prim.Native.Nat.{ℕ, _+_, _<_, _≤_};
-ghost use lib.ListN.{length, getD, set};
+ghost use lib.ListN.{length, getD, set, replicate};
 ghost use Rattle.std.specs.Options.{Cases as BySome};
-ghost use Rattle.table.specs.Searches.{Searched, Pushed, Followed, Sought};
+ghost use Rattle.table.specs.Searches.{Searched, Pushed, Started, Followed, Sought, AllNodes, FirstStray, AllStarted, Reached};
+use crate::faults::TableFault;
+use crate::guards::Cleared;
 use crate::networks::Goal;
 use crate::networks::Network;
 use crate::queues::Queue;
@@ -19,6 +21,18 @@ fn push(queue: &mut Queue, marks: &mut [u8], node: u16, from: u16)
     queue.nodes[at] = node;
     queue.from[at] = from;
     queue.len = at + 1;
+}
+
+// Makes a node a start, unless it is marked already.
+pub(crate) fn start<N: Network>(net: &N, queue: &mut Queue, marks: &mut [u8], node: u16)
+    requires state { ⌜ Searched (N·Network .leads (now net)) (N·Network .nodes (now net)) (now queue) (now marks) ⌝ }
+    requires inside { ⌜ node < N·Network .nodes (now net) ⌝ }
+    ensures { λ _. ⌜ Started (N·Network .leads (now (net .entry))) (N·Network .nodes (now (net .entry))) (now (queue .entry)) (now (queue .exit)) (now (marks .entry)) (now (marks .exit)) node ⌝ }
+{
+    if marks[node as usize] == 0 {
+        let place = queue.len as u16;
+        push(queue, marks, node, place);
+    }
 }
 
 // Follows the leads of the next node, and stops at once at a node that is looked for.
@@ -54,4 +68,66 @@ pub(crate) fn search<N: Network, G: Goal>(net: &N, goal: &G, queue: &mut Queue, 
         }
     }
     None
+}
+
+// The first start that is no node.
+fn stray(nodes: u16, starts: &[u16]) -> Option<u16>
+    ensures { λ r. ⌜ BySome r (AllNodes nodes (now (starts .entry))) (λ s. FirstStray nodes (now (starts .entry)) s) ⌝ }
+{
+    for start in starts {
+        if *start >= nodes {
+            return Some(*start);
+        }
+    }
+    None
+}
+
+// Makes each of some nodes a start, and stops at once at one that is looked for.
+fn start_all<N: Network, G: Goal>(net: &N, goal: &G, queue: &mut Queue, marks: &mut [u8], starts: &[u16]) -> Option<u16>
+    requires state { ⌜ Searched (N·Network .leads (now net)) (N·Network .nodes (now net)) (now queue) (now marks) ⌝ }
+    requires none { ⌜ (now queue .len ≡ 0) × (now queue .next ≡ 0) ⌝ }
+    requires inside { ⌜ AllNodes (N·Network .nodes (now net)) (now starts) ⌝ }
+    ensures { λ r. ⌜ AllStarted (N·Network .leads (now (net .entry))) (N·Network .nodes (now (net .entry))) (G·Goal .wanted (now (goal .entry))) (now (starts .entry)) (now (queue .exit)) (now (marks .exit)) r ⌝ }
+{
+    for node in starts {
+        start(net, queue, marks, *node);
+        if goal.wanted(*node) {
+            return Some(*node);
+        }
+    }
+    None
+}
+
+// A node that is looked for and is reached from one of the starts, or none: over cleared bytes, which it marks.
+fn look<N: Network, G: Goal>(net: &N, goal: &G, starts: &[u16], marks: &mut [u8]) -> Result<Option<u16>, TableFault>
+    requires { ⌜ now marks ≡ replicate (length (now marks)) 0 ⌝ }
+    ensures { λ r. ⌜ Reached (N·Network .leads (now (net .entry))) (N·Network .nodes (now (net .entry))) (G·Goal .wanted (now (goal .entry))) (now (starts .entry)) (length (now (marks .entry))) r ⌝ }
+{
+    let nodes = net.nodes();
+    if marks.len() < nodes as usize {
+        return Err(TableFault::Bytes(marks.len()));
+    }
+    match stray(nodes, starts) {
+        Some(start) => return Err(TableFault::Node(start)),
+        None => {}
+    }
+    let mut queue = Queue::new();
+    match start_all(net, goal, &mut queue, marks, starts) {
+        Some(node) => return Ok(Some(node)),
+        None => {}
+    }
+    match search(net, goal, &mut queue, marks) {
+        Some(place) => Ok(Some(queue.nodes[place])),
+        None => Ok(None),
+    }
+}
+
+// A node that is looked for and that a chain leads to from one of the starts, or none. The working bytes, at least as many as there
+// are nodes, are zero at the end.
+pub fn reach<N: Network, G: Goal>(net: &N, goal: &G, starts: &[u16], bytes: &mut [u8]) -> Result<Option<u16>, TableFault>
+    ensures zero { λ _. ⌜ now (bytes .exit) ≡ replicate (length (now (bytes .entry))) 0 ⌝ }
+    ensures does { λ r. ⌜ Reached (N·Network .leads (now (net .entry))) (N·Network .nodes (now (net .entry))) (G·Goal .wanted (now (goal .entry))) (now (starts .entry)) (length (now (bytes .entry))) r ⌝ }
+{
+    let guard = Cleared::over(bytes);
+    look(net, goal, starts, guard.0)
 }
