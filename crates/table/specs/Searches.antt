@@ -3,7 +3,7 @@ use Prim.Native.Nat.{ℕ, _+_, _<_, _≤_}
 use mathlib.Core.Path.{_≡_}
 use mathlib.Core.Logic.{_⊎_}
 use mathlib.Core.Bool.{Bool, true, false}
-use mathlib.Core.List.{List}
+use mathlib.Core.List.{List, [], _∷_}
 use lib.Dec.{ltb}
 use lib.ListN.{length, getD, set}
 use Rattle.std.specs.declared.option.Option.{Option}
@@ -16,6 +16,8 @@ use Rattle.std.specs.declared.result.Result.{Result}
 use Rattle.std.specs.declared.result.Result.the-variants.{Ok, Err}
 use Rattle.table.specs.declared.faults.TableFault.{TableFault}
 use Rattle.table.specs.declared.faults.TableFault.the-variants.{Bytes, Node}
+use Rattle.stores.specs.Meaning.{Meaning, put, other}
+use Rattle.table.specs.Yards.{joined, along}
 use Rattle.table.specs.declared.queues.Queue.{Queue}
 
 -- the i-th node found, and the place that it was found from
@@ -125,3 +127,34 @@ pub record Reached (leads : Leads) (N : ℕ) (wanted : ℕ → Bool) (starts : L
   pub answers : N ≤ bytes → AllNodes N starts → (f : TableFault) → r ≡ Err f → ⊥
   pub finds : (n : ℕ) → r ≡ Ok (Some n) → ChainFound leads wanted starts n
   pub misses : r ≡ Ok None → NothingFound leads N wanted starts
+
+-- x and y are bus b and post p, or post p and bus b
+abbrev pub Ends : ℕ → ℕ → ℕ → ℕ → ℕ → Type 0
+Ends B x y b p = ((x ≡ b) × (y ≡ B + p)) ⊎ ((x ≡ B + p) × (y ≡ b))
+
+-- from the meaning m to the meaning n the pair of x and y has turned, and nothing else has changed
+pub record PairTurned (m n : Meaning) (x y : ℕ) : Type 0 where
+  pub bus : ℕ
+  pub post : ℕ
+  pub ends : Ends (m .buses) x y bus post
+  pub within : bus < m .buses
+  pub changes : n ≡ put bus post (other (m .standing bus post)) m
+
+-- the way back from a place of the queue to the start that it was found from: the nodes behind the one at that place
+pub data Trail (q : Queue) : ℕ → List ℕ → Type 0 where
+  at-start : {i : ℕ} → from q i ≡ i → Trail q i []
+  earlier : {i : ℕ} {vs : List ℕ} → from q i < i → Trail q (from q i) vs → Trail q i (node q (from q i) ∷ vs)
+
+-- a queue of a search over the pairs of a meaning, along or against their pointing: each node found once, and each but a start paired
+-- with the one that it was found from
+pub record OverPairs (m : Meaning) (q : Queue) : Type 0 where
+  pub few : q .len ≤ 512
+  pub inside : (i : ℕ) → i < q .len → node q i < m .buses + m .posts
+  pub once : (i j : ℕ) → i < q .len → j < q .len → node q i ≡ node q j → i ≡ j
+  pub paired : (i : ℕ) → i < q .len → (from q i ≡ i) ⊎ ((from q i < i) × (joined m (node q (from q i)) (node q i) ≡ true))
+
+-- from the meaning m to the meaning n every pair on the way back has turned, and nothing else has changed
+pub record TurnedBack (q : Queue) (place : ℕ) (m n : Meaning) : Type 0 where
+  pub trail : List ℕ
+  pub is-trail : Trail q place trail
+  pub changes : n ≡ along (node q place) trail m

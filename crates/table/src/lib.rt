@@ -4,3 +4,4 @@ pub mod guards;
 pub mod networks;
 pub mod queues;
 pub mod searches;
+mod turning;
