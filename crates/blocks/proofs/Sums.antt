@@ -4,6 +4,7 @@ use mathlib.Core.Path.{_≡_, refl, sym, ap, _∙_}
 use mathlib.Core.Logic.{inl, inr}
 use mathlib.Core.Bool.{cond}
 use native.Mathlib.Omega.{arith}
+use native.Mathlib.Numerals.{add-one}
 use lib.Dec.{eqb}
 use Rattle.std.proofs.shelf.Tests.{cases-eq, eq-eqb, ne-eqb, cond-true, cond-false}
 use Rattle.blocks.specs.Sums.{sum}
@@ -108,3 +109,12 @@ pub sum-split : (n m : ℕ) (f : ℕ → ℕ) → sum (n + m) f ≡ sum n f + su
 unfolding sum
 sum-split n zero f = let e : n + 0 ≡ n = omega arith in rw e (omega arith)
 sum-split n (suc m) f = let e : n + suc m ≡ suc (n + m) = omega arith in let r = sum-split n m f in rw e (omega arith)
+
+-- one place more
+pub sum-empty : (f : ℕ → ℕ) → sum 0 f ≡ 0
+unfolding sum
+sum-empty f = refl
+
+pub sum-more : (n : ℕ) (f : ℕ → ℕ) → sum (n + 1) f ≡ sum n f + f n
+unfolding sum
+sum-more n f = rw add-one refl

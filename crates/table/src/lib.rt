@@ -5,3 +5,4 @@ pub mod networks;
 pub mod queues;
 pub mod searches;
 mod turning;
+mod levels;
