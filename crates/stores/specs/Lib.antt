@@ -1,3 +1,5 @@
 pub mod Faults
 pub mod Meaning
 pub mod Promises
+pub mod Rated
+pub mod Rules

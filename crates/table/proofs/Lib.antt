@@ -1,3 +1,4 @@
 pub mod Searching
 pub mod Trails
 pub mod Loads
+pub mod Descending

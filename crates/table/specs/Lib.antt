@@ -1,3 +1,4 @@
 pub mod Faults
 pub mod Yards
 pub mod Searches
+pub mod Levels

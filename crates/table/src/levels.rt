@@ -1,9 +1,20 @@
 ghost use mathlib.Core.Path.{_≡_};
+ghost use mathlib.Core.Bool.{Bool};
+ghost use denote.Ref.{now};
 ghost use Prim.Native.Nat.{ℕ, _<_, _≤_};
 ghost use lib.ListN.{length, getD};
 ghost use Rattle.blocks.specs.Sides.{post-load};
 ghost use Rattle.table.specs.Yards.{yard-of, sides-of};
+ghost use Rattle.table.specs.Searches.{Searched, marked};
+ghost use Rattle.table.specs.Levels.{against, size, BusesWithin, Upward, OverStarted, Descended};
+use crate::networks::Against;
+use crate::networks::AgainstNetwork;
+use crate::networks::Goal;
+use crate::queues::Queue;
+use crate::searches::search;
+use crate::searches::start;
 use stores::pairs::Standing;
+use stores::rules::Rule;
 use stores::views::View;
 
 // Does the post carry the pair?
@@ -36,4 +47,45 @@ pub(crate) fn loads<S: View>(view: &S) -> [u16; 256]
         loads[post as usize] = load_of(view, post);
     }
     loads
+}
+
+// What is looked for at each level.
+pub(crate) trait LevelGoal {
+    ghost sought: { Self → ℕ → ℕ → Bool };
+
+    fn sought(&self, level: u16, node: u16) -> bool
+        ensures { λ r. ⌜ r ≡ sought (now (self .entry)) level node ⌝ };
+}
+
+// The same at one level.
+#[derive(Drop)]
+pub(crate) struct AtLevel<'a, G> {
+    goal: &'a G,
+    level: u16,
+}
+
+impl<G: LevelGoal> Goal for AtLevel<'_, G> as AtLevelGoal {
+    ghost wanted = { λ a. G·LevelGoal .sought (now (a .goal)) (a .level) };
+
+    fn wanted(&self, node: u16) -> bool {
+        self.goal.sought(self.level, node)
+    }
+}
+
+// Makes every post over its limit at a level a start, and stops at once at one that is looked for.
+fn start_over<S: View, R: Rule, G: Goal>(view: &S, rule: &R, loads: &[u16; 256], goal: &G, level: u16, queue: &mut Queue, marks: &mut [u8]) -> Option<usize>
+    requires state { ⌜ Searched (against (S·View .means (now view))) (size (S·View .means (now view))) (now queue) (now marks) ⌝ }
+    requires loads { ⌜ ((p : ℕ) → p < S·View .means (now view) .posts → getD (now loads) p 0 ≡ post-load (yard-of (S·View .means (now view))) (sides-of (S·View .means (now view))) p) ⌝ }
+    ensures { λ r. ⌜ OverStarted (S·View .means (now (view .entry))) (R·Rule .limits (now (rule .entry))) level (G·Goal .wanted (now (goal .entry))) (now (queue .entry)) (now (queue .exit)) (now (marks .exit)) r ⌝ }
+{
+    let buses = view.buses();
+    for post in 0..view.posts() {
+        if u32::from(loads[post as usize]) > rule.post_limit(post, level) && marks[(buses + post) as usize] == 0 {
+            start(&Against(view), queue, marks, buses + post);
+            if goal.wanted(buses + post) {
+                return Some(queue.len - 1);
+            }
+        }
+    }
+    None
 }
