@@ -89,3 +89,30 @@ fn start_over<S: View, R: Rule, G: Goal>(view: &S, rule: &R, loads: &[u16; 256],
     }
     None
 }
+
+// Goes down from level 255 to `low`, and stops at once where a node that is sought leads to a post over its limit: the level, and the
+// node's place in the queue. One search serves all levels, since the posts over their limit only grow.
+pub(crate) fn descend<S: View, R: Rule, G: LevelGoal>(view: &S, rule: &R, goal: &G, low: u16, queue: &mut Queue, marks: &mut [u8]) -> Option<(u16, usize)>
+    requires state { ⌜ Searched (against (S·View .means (now view))) (size (S·View .means (now view))) (now queue) (now marks) ⌝ }
+    requires none { ⌜ (now queue .len ≡ 0) × (now queue .next ≡ 0) ⌝ }
+    requires buses { ⌜ BusesWithin (S·View .means (now view)) (R·Rule .limits (now rule)) ⌝ }
+    requires up { ⌜ Upward (G·LevelGoal .sought (now goal)) ⌝ }
+    requires low { ⌜ low ≤ 256 ⌝ }
+    ensures { λ r. ⌜ Descended (S·View .means (now (view .entry))) (R·Rule .limits (now (rule .entry))) (G·LevelGoal .sought (now (goal .entry))) low (now (queue .exit)) (now (marks .exit)) r ⌝ }
+{
+    let loads = loads(view);
+    let mut level = 256;
+    while level > low {
+        level -= 1;
+        let wanted = AtLevel { goal, level };
+        match start_over(view, rule, &loads, &wanted, level, queue, marks) {
+            Some(place) => return Some((level, place)),
+            None => {}
+        }
+        match search(&Against(view), &wanted, queue, marks) {
+            Some(place) => return Some((level, place)),
+            None => {}
+        }
+    }
+    None
+}
