@@ -102,17 +102,19 @@ pub(crate) fn descend<S: View, R: Rule, G: LevelGoal>(view: &S, rule: &R, goal: 
 {
     let loads = loads(view);
     let mut level = 256;
-    while level > low {
-        level -= 1;
-        let wanted = AtLevel { goal, level };
-        match start_over(view, rule, &loads, &wanted, level, queue, marks) {
-            Some(place) => return Some((level, place)),
-            None => {}
+    'found: {
+        while level > low {
+            level -= 1;
+            let wanted = AtLevel { goal, level };
+            match start_over(view, rule, &loads, &wanted, level, queue, marks) {
+                Some(place) => break 'found Some((level, place)),
+                None => {}
+            }
+            match search(&Against(view), &wanted, queue, marks) {
+                Some(place) => break 'found Some((level, place)),
+                None => {}
+            }
         }
-        match search(&Against(view), &wanted, queue, marks) {
-            Some(place) => return Some((level, place)),
-            None => {}
-        }
+        None
     }
-    None
 }
