@@ -1,2 +1,15 @@
+pub mod ByteBits
+pub mod CellPlaces
+pub mod CellWrites
+pub mod Sizes
+pub mod RoomSums
+pub mod Promised
+pub mod GridWrites
+pub mod Exchanges
 pub mod Rates
 pub mod Rising
+pub mod Entries
+pub mod Shifts
+pub mod Changes
+pub mod Replies
+pub mod Counting

@@ -3,6 +3,7 @@ use Prim.Native.Nat.{ℕ, _+_, _≤_}
 use mathlib.Core.Path.{_≡_}
 use mathlib.Core.Bool.{Bool, true, false, cond, _&&_}
 use lib.Dec.{eqb}
+use Rattle.blocks.specs.Sums.{sum, bit}
 use Rattle.stores.specs.declared.pairs.Standing.{Standing}
 use Rattle.stores.specs.declared.pairs.Standing.the-variants.{Absent, Bus, Post}
 use Rattle.stores.specs.declared.pairs.Side.{Side}
@@ -19,6 +20,10 @@ pub record Bounded (m : Meaning) : Type 0 where
   pub few-posts : m .posts ≤ 256
   pub no-bus : (b p : ℕ) → m .buses ≤ b → m .standing b p ≡ Absent
   pub no-post : (b p : ℕ) → m .posts ≤ p → m .standing b p ≡ Absent
+
+-- sizes and no pair; a void store means `empty 0 0`
+abbrev pub empty : ℕ → ℕ → Meaning
+empty buses posts = record { buses = buses; posts = posts; standing = λ b p. Absent }
 
 -- how a pair stands that this side carries
 abbrev pub carried : Side → Standing
@@ -49,3 +54,7 @@ abbrev pub by-post : Standing → Bool
 by-post Absent = false
 by-post Bus = false
 by-post Post = true
+
+-- how many pairs stand
+abbrev pub standing-pairs : Meaning → ℕ
+standing-pairs m = sum (m .buses) (λ b. sum (m .posts) (λ p. bit (stands (m .standing b p))))

@@ -273,8 +273,7 @@ module _ (m : Meaning) (L : Limits) (sought : ℕ → ℕ → Bool) where
                 let c = chain-to-start (leads-of m) (s .len) (node s) (from s) (record { once = b .state .once; links = b .state .found }) (f .0) (f .1) in
                 let lf = f .1 in
                 let lr : c .1 < s .len = omega (arith, c .3) in
-                let o = starts-after (b .grown) (c .1) lr (c .4) in
-                (
+                let o = starts-after (b .grown) (c .1) lr (c .4) in (
                   node s (c .1),
                   b .state .inside (c .1) lr,
                   ltb-true (limit-at (m .buses) L a (node s (c .1))) (load-of m (node s (c .1))) o,

@@ -1,4 +1,5 @@
 pub mod Searching
 pub mod Trails
-pub mod Loads
+pub mod Counting
+pub mod TurningSome
 pub mod Descending

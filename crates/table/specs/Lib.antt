@@ -2,3 +2,4 @@ pub mod Faults
 pub mod Yards
 pub mod Searches
 pub mod Levels
+pub mod Buses

@@ -73,14 +73,24 @@ impl<G: LevelGoal> Goal for AtLevel<'_, G> as AtLevelGoal {
 }
 
 // Makes every post over its limit at a level a start, and stops at once at one that is looked for.
-fn start_over<S: View, R: Rule, G: Goal>(view: &S, rule: &R, loads: &[u16; 256], goal: &G, level: u16, queue: &mut Queue, marks: &mut [u8]) -> Option<usize>
+fn start_over<S: View, R: Rule, G: Goal>(
+    view: &S,
+    rule: &R,
+    loads: &[u16; 256],
+    goal: &G,
+    level: u16,
+    queue: &mut Queue,
+    marks: &mut [u8],
+) -> Option<usize>
     requires state { ⌜ Searched (against (S·View .means (now view))) (size (S·View .means (now view))) (now queue) (now marks) ⌝ }
     requires loads { ⌜ ((p : ℕ) → p < S·View .means (now view) .posts → getD (now loads) p 0 ≡ post-load (yard-of (S·View .means (now view))) (sides-of (S·View .means (now view))) p) ⌝ }
     ensures { λ r. ⌜ OverStarted (S·View .means (now (view .entry))) (R·Rule .limits (now (rule .entry))) level (G·Goal .wanted (now (goal .entry))) (now (queue .entry)) (now (queue .exit)) (now (marks .exit)) r ⌝ }
 {
     let buses = view.buses();
     for post in 0..view.posts() {
-        if u32::from(loads[post as usize]) > rule.post_limit(post, level) && marks[(buses + post) as usize] == 0 {
+        if u32::from(loads[post as usize]) > rule.post_limit(post, level)
+            && marks[(buses + post) as usize] == 0
+        {
             start(&Against(view), queue, marks, buses + post);
             if goal.wanted(buses + post) {
                 return Some(queue.len - 1);
@@ -92,7 +102,14 @@ fn start_over<S: View, R: Rule, G: Goal>(view: &S, rule: &R, loads: &[u16; 256],
 
 // Goes down from level 255 to `low`, and stops at once where a node that is sought leads to a post over its limit: the level, and the
 // node's place in the queue. One search serves all levels, since the posts over their limit only grow.
-pub(crate) fn descend<S: View, R: Rule, G: LevelGoal>(view: &S, rule: &R, goal: &G, low: u16, queue: &mut Queue, marks: &mut [u8]) -> Option<(u16, usize)>
+pub(crate) fn descend<S: View, R: Rule, G: LevelGoal>(
+    view: &S,
+    rule: &R,
+    goal: &G,
+    low: u16,
+    queue: &mut Queue,
+    marks: &mut [u8],
+) -> Option<(u16, usize)>
     requires state { ⌜ Searched (against (S·View .means (now view))) (size (S·View .means (now view))) (now queue) (now marks) ⌝ }
     requires none { ⌜ (now queue .len ≡ 0) × (now queue .next ≡ 0) ⌝ }
     requires buses { ⌜ BusesWithin (S·View .means (now view)) (R·Rule .limits (now rule)) ⌝ }

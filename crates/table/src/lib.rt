@@ -1,8 +1,9 @@
 // The table over any store and any rule.
+mod buses;
 pub mod faults;
 pub mod guards;
+mod levels;
 pub mod networks;
 pub mod queues;
 pub mod searches;
 mod turning;
-mod levels;

@@ -36,7 +36,12 @@ pub(crate) fn start<N: Network>(net: &N, queue: &mut Queue, marks: &mut [u8], no
 }
 
 // Follows the leads of the next node, and stops at once at a node that is looked for.
-fn follow<N: Network, G: Goal>(net: &N, goal: &G, queue: &mut Queue, marks: &mut [u8]) -> Option<usize>
+fn follow<N: Network, G: Goal>(
+    net: &N,
+    goal: &G,
+    queue: &mut Queue,
+    marks: &mut [u8],
+) -> Option<usize>
     requires state { ⌜ Searched (N·Network .leads (now net)) (N·Network .nodes (now net)) (now queue) (now marks) ⌝ }
     requires more { ⌜ now queue .next < now queue .len ⌝ }
     ensures { λ r. ⌜ Followed (N·Network .leads (now (net .entry))) (N·Network .nodes (now (net .entry))) (G·Goal .wanted (now (goal .entry))) (now (queue .entry)) (now (queue .exit)) (now (marks .exit)) r ⌝ }
@@ -57,7 +62,12 @@ fn follow<N: Network, G: Goal>(net: &N, goal: &G, queue: &mut Queue, marks: &mut
 
 // Follows leads until a node that is looked for is found, or all that was found has been followed. The leads from each node are asked
 // once, so each ordered pair of nodes at most once.
-pub(crate) fn search<N: Network, G: Goal>(net: &N, goal: &G, queue: &mut Queue, marks: &mut [u8]) -> Option<usize>
+pub(crate) fn search<N: Network, G: Goal>(
+    net: &N,
+    goal: &G,
+    queue: &mut Queue,
+    marks: &mut [u8],
+) -> Option<usize>
     requires { ⌜ Searched (N·Network .leads (now net)) (N·Network .nodes (now net)) (now queue) (now marks) ⌝ }
     ensures { λ r. ⌜ Sought (N·Network .leads (now (net .entry))) (N·Network .nodes (now (net .entry))) (G·Goal .wanted (now (goal .entry))) (now (queue .entry)) (now (queue .exit)) (now (marks .exit)) r ⌝ }
 {
@@ -83,7 +93,13 @@ fn stray(nodes: u16, starts: &[u16]) -> Option<u16>
 }
 
 // Makes each of some nodes a start, and stops at once at one that is looked for.
-fn start_all<N: Network, G: Goal>(net: &N, goal: &G, queue: &mut Queue, marks: &mut [u8], starts: &[u16]) -> Option<u16>
+fn start_all<N: Network, G: Goal>(
+    net: &N,
+    goal: &G,
+    queue: &mut Queue,
+    marks: &mut [u8],
+    starts: &[u16],
+) -> Option<u16>
     requires state { ⌜ Searched (N·Network .leads (now net)) (N·Network .nodes (now net)) (now queue) (now marks) ⌝ }
     requires none { ⌜ (now queue .len ≡ 0) × (now queue .next ≡ 0) ⌝ }
     requires inside { ⌜ AllNodes (N·Network .nodes (now net)) (now starts) ⌝ }
@@ -99,7 +115,12 @@ fn start_all<N: Network, G: Goal>(net: &N, goal: &G, queue: &mut Queue, marks: &
 }
 
 // A node that is looked for and is reached from one of the starts, or none: over cleared bytes, which it marks.
-fn look<N: Network, G: Goal>(net: &N, goal: &G, starts: &[u16], marks: &mut [u8]) -> Result<Option<u16>, TableFault>
+fn look<N: Network, G: Goal>(
+    net: &N,
+    goal: &G,
+    starts: &[u16],
+    marks: &mut [u8],
+) -> Result<Option<u16>, TableFault>
     requires { ⌜ now marks ≡ replicate (length (now marks)) 0 ⌝ }
     ensures { λ r. ⌜ Reached (N·Network .leads (now (net .entry))) (N·Network .nodes (now (net .entry))) (G·Goal .wanted (now (goal .entry))) (now (starts .entry)) (length (now (marks .entry))) r ⌝ }
 {
@@ -124,7 +145,12 @@ fn look<N: Network, G: Goal>(net: &N, goal: &G, starts: &[u16], marks: &mut [u8]
 
 // A node that is looked for and that a chain leads to from one of the starts, or none. The working bytes, at least as many as there
 // are nodes, are zero at the end.
-pub fn reach<N: Network, G: Goal>(net: &N, goal: &G, starts: &[u16], bytes: &mut [u8]) -> Result<Option<u16>, TableFault>
+pub fn reach<N: Network, G: Goal>(
+    net: &N,
+    goal: &G,
+    starts: &[u16],
+    bytes: &mut [u8],
+) -> Result<Option<u16>, TableFault>
     ensures zero { λ _. ⌜ now (bytes .exit) ≡ replicate (length (now (bytes .entry))) 0 ⌝ }
     ensures does { λ r. ⌜ Reached (N·Network .leads (now (net .entry))) (N·Network .nodes (now (net .entry))) (G·Goal .wanted (now (goal .entry))) (now (starts .entry)) (length (now (bytes .entry))) r ⌝ }
 {
