@@ -2,4 +2,5 @@ pub mod Searching
 pub mod Trails
 pub mod Counting
 pub mod TurningSome
+pub mod SettlingBuses
 pub mod Descending

@@ -3,6 +3,7 @@ use Prim.Native.Nat.{ℕ, _+_, _<_, _≤_, min}
 use mathlib.Core.Path.{_≡_}
 use mathlib.Core.Bool.{Bool, true, false, _&&_, not}
 use Rattle.blocks.specs.Sums.{sum, bit}
+use Rattle.blocks.specs.Limits.{Limits}
 use Rattle.stores.specs.Meaning.{Meaning, stands, by-post}
 use Rattle.stores.specs.declared.pairs.Standing.{Standing}
 use Rattle.stores.specs.declared.pairs.Side.{Side}
@@ -33,3 +34,25 @@ pub record SomeTurned (m n : Meaning) (b : ℕ) (side : Side) (count : ℕ) : Ty
   pub only : OnlyBus m n b
   pub fewer : on-side n side b + count ≡ on-side m side b
   pub none : count ≡ 0 → n ≡ m
+
+-- a bus carries the lesser of its limit and its number of pairs; nothing has changed if it did before
+pub record BusSettled (m n : Meaning) (b limit : ℕ) : Type 0 where
+  pub only : OnlyBus m n b
+  pub carries : on-side n bus-side b ≡ min limit (pairs-of m b)
+  pub same : on-side m bus-side b ≡ min limit (pairs-of m b) → n ≡ m
+
+-- every bus carries the lesser of its limit and its number of pairs
+abbrev pub BusesRight : Meaning → Limits → Type 0
+BusesRight m L = (b : ℕ) → b < m .buses → on-side m bus-side b ≡ min (L .bus b) (pairs-of m b)
+
+-- from m to n only sides have changed
+pub record SamePairs (m n : Meaning) : Type 0 where
+  pub buses : n .buses ≡ m .buses
+  pub posts : n .posts ≡ m .posts
+  pub same : (c p : ℕ) → stands (n .standing c p) ≡ stands (m .standing c p)
+
+-- the buses are right, only sides have changed, and none has if they were right before
+pub record BusesSettled (m n : Meaning) (L : Limits) : Type 0 where
+  pub pairs : SamePairs m n
+  pub right : BusesRight n L
+  pub same : BusesRight m L → n ≡ m
