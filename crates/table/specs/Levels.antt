@@ -37,6 +37,15 @@ over-at m L a n = ltb (limit-at (m .buses) L a n) (load-of m n)
 abbrev pub under-at : Meaning → Limits → ℕ → ℕ → Bool
 under-at m L a n = leb (m .buses) n && ltb (load-of m n) (limit-at (m .buses) L a n)
 
+-- what each post carries, as an array
+abbrev pub LoadsOf : Meaning → List ℕ → Type 0
+LoadsOf m loads = (p : ℕ) → p < m .posts → getD loads p 0 ≡ post-load (yard-of m) (sides-of m) p
+
+-- the node is a post under its limit at the level, by what the posts carry
+abbrev pub under : List ℕ → Limits → ℕ → ℕ → ℕ → ℕ → Bool
+under loads L buses posts a n =
+    leb buses n && (ltb (n - buses) posts && (ltb (n - buses) 256 && ltb (getD loads (n - buses) 0) (L .post a (n - buses))))
+
 -- no bus carries more than its limit
 abbrev pub BusesWithin : Meaning → Limits → Type 0
 BusesWithin m L = (b : ℕ) → b < m .buses → load-of m b ≤ L .bus b

@@ -6,7 +6,7 @@ ghost use lib.ListN.{length, getD};
 ghost use Rattle.blocks.specs.Sides.{post-load};
 ghost use Rattle.table.specs.Yards.{yard-of, sides-of};
 ghost use Rattle.table.specs.Searches.{Searched, marked};
-ghost use Rattle.table.specs.Levels.{against, size, BusesWithin, Upward, OverStarted, Descended};
+ghost use Rattle.table.specs.Levels.{against, size, BusesWithin, Upward, LoadsOf, OverStarted, Descended, under};
 use crate::networks::Against;
 use crate::networks::AgainstNetwork;
 use crate::networks::Goal;
@@ -40,7 +40,7 @@ fn load_of<S: View>(view: &S, post: u16) -> u16
 
 // What each post carries.
 pub(crate) fn loads<S: View>(view: &S) -> [u16; 256]
-    ensures { λ r. ⌜ ((p : ℕ) → p < S·View .means (now (view .entry)) .posts → getD r p 0 ≡ post-load (yard-of (S·View .means (now (view .entry)))) (sides-of (S·View .means (now (view .entry)))) p) ⌝ }
+    ensures { λ r. ⌜ LoadsOf (S·View .means (now (view .entry))) r ⌝ }
 {
     let mut loads = [0; 256];
     for post in 0..view.posts() {
@@ -83,7 +83,7 @@ fn start_over<S: View, R: Rule, G: Goal>(
     marks: &mut [u8],
 ) -> Option<usize>
     requires state { ⌜ Searched (against (S·View .means (now view))) (size (S·View .means (now view))) (now queue) (now marks) ⌝ }
-    requires loads { ⌜ ((p : ℕ) → p < S·View .means (now view) .posts → getD (now loads) p 0 ≡ post-load (yard-of (S·View .means (now view))) (sides-of (S·View .means (now view))) p) ⌝ }
+    requires loads { ⌜ LoadsOf (S·View .means (now view)) (now loads) ⌝ }
     ensures { λ r. ⌜ OverStarted (S·View .means (now (view .entry))) (R·Rule .limits (now (rule .entry))) level (G·Goal .wanted (now (goal .entry))) (now (queue .entry)) (now (queue .exit)) (now (marks .exit)) r ⌝ }
 {
     let buses = view.buses();
@@ -105,6 +105,7 @@ fn start_over<S: View, R: Rule, G: Goal>(
 pub(crate) fn descend<S: View, R: Rule, G: LevelGoal>(
     view: &S,
     rule: &R,
+    loads: &[u16; 256],
     goal: &G,
     low: u16,
     queue: &mut Queue,
@@ -112,18 +113,18 @@ pub(crate) fn descend<S: View, R: Rule, G: LevelGoal>(
 ) -> Option<(u16, usize)>
     requires state { ⌜ Searched (against (S·View .means (now view))) (size (S·View .means (now view))) (now queue) (now marks) ⌝ }
     requires none { ⌜ (now queue .len ≡ 0) × (now queue .next ≡ 0) ⌝ }
+    requires loads { ⌜ LoadsOf (S·View .means (now view)) (now loads) ⌝ }
     requires buses { ⌜ BusesWithin (S·View .means (now view)) (R·Rule .limits (now rule)) ⌝ }
     requires up { ⌜ Upward (G·LevelGoal .sought (now goal)) ⌝ }
     requires low { ⌜ low ≤ 256 ⌝ }
     ensures { λ r. ⌜ Descended (S·View .means (now (view .entry))) (R·Rule .limits (now (rule .entry))) (G·LevelGoal .sought (now (goal .entry))) low (now (queue .exit)) (now (marks .exit)) r ⌝ }
 {
-    let loads = loads(view);
     let mut level = 256;
     'found: {
         while level > low {
             level -= 1;
             let wanted = AtLevel { goal, level };
-            match start_over(view, rule, &loads, &wanted, level, queue, marks) {
+            match start_over(view, rule, loads, &wanted, level, queue, marks) {
                 Some(place) => break 'found Some((level, place)),
                 None => {}
             }
@@ -133,5 +134,28 @@ pub(crate) fn descend<S: View, R: Rule, G: LevelGoal>(
             }
         }
         None
+    }
+}
+
+// The posts under their limit, by what the posts carry.
+#[derive(Drop)]
+pub(crate) struct Under<'a, R> {
+    pub(crate) rule: &'a R,
+    pub(crate) loads: &'a [u16; 256],
+    pub(crate) buses: u16,
+    pub(crate) posts: u16,
+}
+
+impl<R: Rule> LevelGoal for Under<'_, R> as UnderGoal {
+    ghost sought = { λ u. under (now (u .loads)) (R·Rule .limits (now (u .rule))) (u .buses) (u .posts) };
+
+    fn sought(&self, level: u16, node: u16) -> bool {
+        if node < self.buses {
+            return false;
+        }
+        let post = node - self.buses;
+        post < self.posts
+            && post < 256
+            && u32::from(self.loads[post as usize]) < self.rule.post_limit(post, level)
     }
 }
