@@ -3,3 +3,4 @@ pub mod Yards
 pub mod Searches
 pub mod Levels
 pub mod Buses
+pub mod Evening

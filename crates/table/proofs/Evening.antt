@@ -1,0 +1,162 @@
+-- Even sides, and what one turned chain does to a store's meaning.
+use Prim.Native.Nat.{ℕ, zero, suc, _+_, _-_, _<_, _≤_, min}
+use mathlib.Core.Path.{_≡_, refl, sym, ap, ap₂, subst, _∙_, fun-ext}
+use mathlib.Core.Logic.{_⊎_, inl, inr}
+use mathlib.Core.Bool.{Bool, true, false, cond, not, _&&_, _||_}
+use mathlib.Core.List.{List, [], _∷_}
+use native.Mathlib.Omega.{arith}
+use lib.Dec.{ltb, leb, eqb}
+use lib.ListN.{getD}
+use Rattle.std.proofs.shelf.Tests.{cases-bool, cases-eq, cases-lt, both-ways, ltb-true, lt-ltb, le-leb, leb-true, and-parts, and-from}
+use Rattle.std.proofs.shelf.Ways.{tells}
+use Rattle.std.specs.declared.option.Option.{Option}
+use Rattle.std.specs.declared.option.Option.the-variants.{Some, None}
+use Rattle.blocks.specs.Sums.{sum, bit}
+use Rattle.blocks.specs.Limits.{Limits, Rising, limit-at}
+use Rattle.blocks.specs.Yards.{Yard}
+use Rattle.blocks.specs.Networks.{Leads, Network, load, degree, Walk, here, step, Reach}
+use Rattle.blocks.specs.Chains.{NoneOf, Chain, end, next-in, turned}
+use Rattle.blocks.specs.Sides.{Sides, Even, pointing, in-chain, flipped, all-over}
+use Rattle.blocks.proofs.Sums.{sum-cong, sum-none, sum-split}
+use Rattle.blocks.proofs.Chains.{chain-walk, chain-load}
+use Rattle.blocks.proofs.Flips.{low, high, from-bus, from-post, flip-turns}
+use Rattle.blocks.proofs.Levels.{at-bus, at-post}
+use Rattle.blocks.proofs.Reading as reading
+use Rattle.blocks.proofs.Yards.{levels, net-of, settling-ends}
+use Rattle.stores.specs.Meaning.{Meaning, Bounded, stands, by-post, other}
+use Rattle.stores.specs.declared.pairs.Standing.{Standing}
+use Rattle.stores.specs.declared.pairs.Standing.the-variants.{Absent, Bus, Post}
+use Rattle.stores.specs.declared.pairs.Side.the-variants.{Bus as bus-side, Post as post-side}
+use Rattle.table.specs.declared.queues.Queue.{Queue}
+use Rattle.table.specs.Yards.{yard-of, sides-of, leads-of, joined, along}
+use Rattle.table.specs.Searches.{node, from, marked, Searched, Trail, at-start, earlier, OverPairs, TurnedBack}
+use Rattle.table.specs.Levels.{against, size, load-of, over-at, under-at, under, LoadsOf, BusesWithin, Upward, Clear, Descended}
+use Rattle.table.specs.Buses.{is-on, on-side, pairs-of, BusesRight, SamePairs}
+use Rattle.table.specs.Evening.{EvenSides, Uneven, Settled}
+use Rattle.table.proofs.Searching.{within}
+use Rattle.table.proofs.Trails.{trail-none}
+use Rattle.table.proofs.Descending.{sized}
+
+-- every pair of a chain turned: the same pairs, and the network of the chain turned
+module _ (m : Meaning) (x : ℕ) (vs : List ℕ) where
+  still : (t : Bool) (s : Standing) → stands (cond t (other s) s) ≡ stands s
+  still true Absent = refl
+  still true Bus = refl
+  still true Post = refl
+  still false s = refl
+
+  pub along-paired : (b p : ℕ) → yard-of (along x vs m) .paired b p ≡ yard-of m .paired b p
+  along-paired b p = still (in-chain (m .buses) x vs b p) (m .standing b p)
+
+  pub along-yard : yard-of (along x vs m) ≡ yard-of m
+  along-yard i = record { buses = m .buses; posts = m .posts; paired = fun-ext (λ b. fun-ext (λ p. along-paired b p)) i }
+
+  side-bus : (t : Bool) (s : Standing) → (stands (cond t (other s) s) && by-post (cond t (other s) s)) ≡ (stands s && cond t (not (by-post s)) (by-post s))
+  side-bus true Absent = refl
+  side-bus true Bus = refl
+  side-bus true Post = refl
+  side-bus false s = refl
+
+  side-post : (t : Bool) (s : Standing) → (stands (cond t (other s) s) && not (by-post (cond t (other s) s))) ≡ (stands s && not (cond t (not (by-post s)) (by-post s)))
+  side-post true Absent = refl
+  side-post true Bus = refl
+  side-post true Post = refl
+  side-post false s = refl
+
+  leads-at : (a c : ℕ) → leads-of (along x vs m) a c ≡ pointing (m .buses) (yard-of m .paired) (flipped (m .buses) x vs (sides-of m)) a c
+  leads-at a c =
+      let B : ℕ = m .buses in
+      let e : ℕ → ℕ → Bool = yard-of m .paired in
+      let s : Sides = flipped (m .buses) x vs (sides-of m) in
+      let e′ : ℕ → ℕ → Bool = yard-of (along x vs m) .paired in
+      let s′ : Sides = sides-of (along x vs m) in
+      elim (cases-lt a B) [
+        | inl ab ↦ elim (cases-lt c B) [
+          | inl cb ↦ low B e′ s′ a c ab cb ∙ sym (low B e s a c ab cb)
+          | inr cb ↦ from-bus B e′ s′ a c ab cb ∙ side-bus (in-chain (m .buses) x vs a (c - m .buses)) (m .standing a (c - m .buses)) ∙ sym (from-bus B e s a c ab cb)
+        ]
+        | inr ab ↦ elim (cases-lt c B) [
+          | inl cb ↦ from-post B e′ s′ a c ab cb ∙ side-post (in-chain (m .buses) x vs c (a - m .buses)) (m .standing c (a - m .buses)) ∙ sym (from-post B e s a c ab cb)
+          | inr cb ↦ high B e′ s′ a c ab cb ∙ sym (high B e s a c ab cb)
+        ]
+      ]
+
+  pub along-leads : leads-of (along x vs m) ≡ pointing (m .buses) (yard-of m .paired) (flipped (m .buses) x vs (sides-of m))
+  along-leads = fun-ext (λ a. fun-ext (λ c. leads-at a c))
+
+  pub along-turned : Chain (leads-of m) x vs → leads-of (along x vs m) ≡ turned x vs (leads-of m)
+  along-turned c = along-leads ∙ flip-turns (m .buses) (yard-of m .paired) (sides-of m) x vs c
+
+-- a search against the pointing is over the pairs
+pub against-pairs : (m : Meaning) (q : Queue) (marks : List ℕ) → Searched (against m) (size m) q marks → OverPairs m q
+against-pairs m q marks state = record {
+  few = omega (arith, within (against m) (size m) q marks state, state .few);
+  inside = state .inside;
+  once = state .once;
+  paired = λ i l. elim (state .found i l) [
+    | inl e ↦ inl e
+    | inr h ↦ let k = h .1 in inr (h .0, grind arith)
+  ];
+}
+
+-- the way back of such a search is a chain to a start
+pub trail-chain : (m : Meaning) (q : Queue) (marks : List ℕ) → Searched (against m) (size m) q marks → (i : ℕ) (vs : List ℕ) → Trail q i vs → i < q .len
+    → Chain (leads-of m) (node q i) vs × ((r : ℕ) × (r < q .len) × (from q r ≡ r) × (end (node q i) vs ≡ node q r))
+trail-chain m q marks state i vs (at-start e) l = (tt, (i, l, e, refl))
+trail-chain m q marks state i vs (earlier {vs = ws} k t) l =
+    let c = trail-chain m q marks state (from q i) ws t (omega arith) in
+    let none = trail-none m q (against-pairs m q marks state) t i k l in
+    ((link (state .found i l), none, c .0), c .1)
+  where
+    link : (from q i ≡ i) ⊎ ((from q i < i) × (against m (node q (from q i)) (node q i) ≡ true)) → leads-of m (node q i) (node q (from q i)) ≡ true
+    link (inl e) = absurd (omega arith)
+    link (inr h) = h .1
+
+-- a bus's load and number of pairs, as counted
+module _ (m : Meaning) (b : ℕ) (lb : b < m .buses) where
+  pub bus-load : load-of m b ≡ on-side m bus-side b
+  bus-load = reading.bus-load (m .buses) (m .posts) (yard-of m .paired) (sides-of m) b lb
+
+  either : (s : Standing) → bit (stands s && by-post s) + bit (stands s && not (by-post s)) ≡ bit (stands s)
+  either Absent = refl
+  either Bus = refl
+  either Post = refl
+
+  pub bus-degree : degree (size m) (leads-of m) b ≡ pairs-of m b
+  bus-degree =
+      let f : ℕ → ℕ = λ n. bit (leads-of m b n) + bit (leads-of m n b) in
+      let s = sum-split (m .buses) (m .posts) f in
+      let z = sum-none (m .buses) f (λ n l. let p = low (m .buses) (yard-of m .paired) (sides-of m) b n lb l in let q = low (m .buses) (yard-of m .paired) (sides-of m) n b l lb in
+      let p2 = ap bit p in let q2 = ap bit q in omega arith) in
+      let c = sum-cong (m .posts) (λ p. f (m .buses + p)) (λ p. bit (stands (m .standing b p))) (λ p l.
+      let e : (m .buses + p) - m .buses ≡ p = omega arith in
+      let u = from-bus (m .buses) (yard-of m .paired) (sides-of m) b (m .buses + p) lb (omega arith) ∙ ap (λ k. stands (m .standing b k) && by-post (m .standing b k)) e in
+      let v = from-post (m .buses) (yard-of m .paired) (sides-of m) (m .buses + p) b (omega arith) lb ∙ ap (λ k. stands (m .standing b k) && not (by-post (m .standing b k))) e in
+      let u2 = ap bit u in let v2 = ap bit v in let w = either (m .standing b p) in omega arith) in
+      omega arith
+
+-- right buses are within their limits
+pub right-within : (m : Meaning) (L : Limits) → BusesRight m L → BusesWithin m L
+right-within m L right b lb = omega (arith, bus-load m b lb, right b lb)
+
+-- even sides have right buses
+pub even-right : (m : Meaning) (L : Limits) → EvenSides m L → BusesRight m L
+even-right m L even b lb =
+    let e = even .bus b lb in
+    let l = at-bus (yard-of m) L 0 b lb in
+    omega (arith, bus-load m b lb, bus-degree m b lb)
+
+-- with right buses and every level clear of posts under their limit, the sides are even
+pub clear-even : (m : Meaning) (L : Limits) → BusesRight m L → ((c : ℕ) → c < 256 → Clear m L (under-at m L) c) → EvenSides m L
+clear-even m L right clear = record {
+  bus = λ b lb. let l = at-bus (yard-of m) L 0 b lb in omega (arith, bus-load m b lb, bus-degree m b lb, right b lb);
+  post = λ a s vs la bs ls be le chain low-load high-load.
+      let c = clear a la in
+      let top = c .reach .over-in (end s vs) le high-load in
+      let in-set = walked (c .set-of) (c .reach .back) s (end s vs) (chain-walk (leads-of m) s vs chain) top in
+      both-ways (under-at m L a s) (c .unsought s ls in-set) (and-from (leb (m .buses) s) (ltb (load-of m s) (limit-at (m .buses) L a s)) (le-leb (m .buses) s bs) (lt-ltb (load-of m s) (limit-at (m .buses) L a s) low-load));
+}
+  where
+    walked : (D : ℕ → Bool) → ((x y : ℕ) → leads-of m x y ≡ true → D y ≡ true → D x ≡ true) → (u o : ℕ) → Walk (leads-of m) u o → D o ≡ true → D u ≡ true
+    walked D back u o here e = e
+    walked D back u o (step {y = y} k w) e = back u y k (walked D back y o w e)
