@@ -7,7 +7,7 @@ use mathlib.Core.List.{List, [], _∷_}
 use native.Mathlib.Omega.{arith}
 use lib.Dec.{ltb, leb, eqb}
 use lib.ListN.{getD}
-use Rattle.std.proofs.shelf.Tests.{cases-bool, cases-eq, cases-lt, both-ways, ltb-true, lt-ltb, le-leb, leb-true, and-parts, and-from}
+use Rattle.std.proofs.shelf.Tests.{cases-bool, cases-eq, cases-lt, both-ways, ltb-true, lt-ltb, le-leb, lt-leb, leb-true, and-parts, and-from}
 use Rattle.std.proofs.shelf.Ways.{tells}
 use Rattle.std.specs.declared.option.Option.{Option}
 use Rattle.std.specs.declared.option.Option.the-variants.{Some, None}
@@ -100,15 +100,16 @@ against-pairs m q marks state = record {
 }
 
 -- the way back of such a search is a chain to a start
-pub trail-chain : (m : Meaning) (q : Queue) (marks : List ℕ) → Searched (against m) (size m) q marks → (i : ℕ) (vs : List ℕ) → Trail q i vs → i < q .len
+pub trail-chain : (m : Meaning) (q : Queue) → OverPairs m q → ((i : ℕ) → i < q .len → (from q i ≡ i) ⊎ ((from q i < i) × (leads-of m (node q i) (node q (from q i)) ≡ true)))
+    → (i : ℕ) (vs : List ℕ) → Trail q i vs → i < q .len
     → Chain (leads-of m) (node q i) vs × ((r : ℕ) × (r < q .len) × (from q r ≡ r) × (end (node q i) vs ≡ node q r))
-trail-chain m q marks state i vs (at-start e) l = (tt, (i, l, e, refl))
-trail-chain m q marks state i vs (earlier {vs = ws} k t) l =
-    let c = trail-chain m q marks state (from q i) ws t (omega arith) in
-    let none = trail-none m q (against-pairs m q marks state) t i k l in
-    ((link (state .found i l), none, c .0), c .1)
+trail-chain m q over found i vs (at-start e) l = (tt, (i, l, e, refl))
+trail-chain m q over found i vs (earlier {vs = ws} k t) l =
+    let c = trail-chain m q over found (from q i) ws t (omega arith) in
+    let none = trail-none m q over t i k l in
+    ((link (found i l), none, c .0), c .1)
   where
-    link : (from q i ≡ i) ⊎ ((from q i < i) × (against m (node q (from q i)) (node q i) ≡ true)) → leads-of m (node q i) (node q (from q i)) ≡ true
+    link : (from q i ≡ i) ⊎ ((from q i < i) × (leads-of m (node q i) (node q (from q i)) ≡ true)) → leads-of m (node q i) (node q (from q i)) ≡ true
     link (inl e) = absurd (omega arith)
     link (inr h) = h .1
 
@@ -160,3 +161,73 @@ clear-even m L right clear = record {
     walked : (D : ℕ → Bool) → ((x y : ℕ) → leads-of m x y ≡ true → D y ≡ true → D x ≡ true) → (u o : ℕ) → Walk (leads-of m) u o → D o ≡ true → D u ≡ true
     walked D back u o here e = e
     walked D back u o (step {y = y} k w) e = back u y k (walked D back y o w e)
+
+-- the posts under their limit, by what the posts carry
+module _ (m : Meaning) (L : Limits) (loads : List ℕ) (bounded : Bounded m) (right : LoadsOf m loads) where
+  pub under-is : (a n : ℕ) → n < size m → under loads L (m .buses) (m .posts) a n ≡ under-at m L a n
+  under-is a n w = elim (cases-lt n (m .buses)) [
+    | inl b ↦ let e : leb (m .buses) n ≡ false = lt-leb (m .buses) n b in
+        ap (λ t. t && (ltb (n - m .buses) (m .posts) && (ltb (n - m .buses) 256 && ltb (getD loads (n - m .buses) 0) (L .post a (n - m .buses))))) e
+        ∙ sym (ap (λ t. t && ltb (load-of m n) (limit-at (m .buses) L a n)) e)
+    | inr b ↦
+        let p : ℕ = n - m .buses in
+        let lp : n - m .buses < m .posts = omega arith in
+        let e : m .buses + (n - m .buses) ≡ n = omega arith in
+        let l : load-of m n ≡ getD loads (n - m .buses) 0 = ap (load-of m) (sym e) ∙ reading.post-load (m .buses) (m .posts) (yard-of m .paired) (sides-of m) (n - m .buses) lp ∙ sym (right (n - m .buses) lp) in
+        let k : limit-at (m .buses) L a n ≡ L .post a (n - m .buses) = ap (limit-at (m .buses) L a) (sym e) ∙ at-post (yard-of m) L a (n - m .buses) in
+        ap (λ t. leb (m .buses) n && (t && (ltb (n - m .buses) 256 && ltb (getD loads (n - m .buses) 0) (L .post a (n - m .buses))))) (lt-ltb (n - m .buses) (m .posts) lp)
+        ∙ ap (λ t. leb (m .buses) n && (t && ltb (getD loads (n - m .buses) 0) (L .post a (n - m .buses)))) (lt-ltb (n - m .buses) 256 (omega (arith, bounded .few-posts)))
+        ∙ ap₂ (λ u v. leb (m .buses) n && ltb u v) (sym l) (sym k)
+  ]
+
+pub under-upward : (loads : List ℕ) (L : Limits) (buses posts : ℕ) → Rising L → Upward (under loads L buses posts)
+under-upward loads L buses posts rising a c n h lc e =
+    let p = and-parts (leb buses n) (ltb (n - buses) posts && (ltb (n - buses) 256 && ltb (getD loads (n - buses) 0) (L .post a (n - buses)))) e in
+    let q = and-parts (ltb (n - buses) posts) (ltb (n - buses) 256 && ltb (getD loads (n - buses) 0) (L .post a (n - buses))) (p .1) in
+    let r = and-parts (ltb (n - buses) 256) (ltb (getD loads (n - buses) 0) (L .post a (n - buses))) (q .1) in
+    let low-limit = ltb-true (getD loads (n - buses) 0) (L .post a (n - buses)) (r .1) in
+    let more = climbs-to L rising a c (n - buses) h lc in
+    and-from (leb buses n) (ltb (n - buses) posts && (ltb (n - buses) 256 && ltb (getD loads (n - buses) 0) (L .post c (n - buses)))) (p .0)
+    (and-from (ltb (n - buses) posts) (ltb (n - buses) 256 && ltb (getD loads (n - buses) 0) (L .post c (n - buses))) (q .0)
+    (and-from (ltb (n - buses) 256) (ltb (getD loads (n - buses) 0) (L .post c (n - buses))) (r .0) (lt-ltb (getD loads (n - buses) 0) (L .post c (n - buses)) (omega arith))))
+  where
+    climbs-to : (L : Limits) → Rising L → (a c p : ℕ) → a ≤ c → c < 256 → L .post a p ≤ L .post c p
+    climbs-to L r a zero p h w = let e : a ≡ 0 = omega arith in let f = ap (λ z. L .post z p) e in omega arith
+    climbs-to L r a (suc c) p h w = elim (cases-eq a (suc c)) [
+      | inl e ↦ let f = ap (λ z. L .post z p) e in omega arith
+      | inr d ↦ omega (arith, climbs-to L r a c p (omega arith) (omega arith), r c p (omega arith))
+    ]
+
+-- what the search down the levels says of evenness
+module _ (m : Meaning) (L : Limits) (loads : List ℕ) (bounded : Bounded m) (loads-right : LoadsOf m loads) (right : BusesRight m L) (q : Queue) (marks : List ℕ) where
+  pub uneven-found : (a place : ℕ) → Descended m L (under loads L (m .buses) (m .posts)) 0 q marks (Some (a, place)) → Uneven m L q (Some place)
+  uneven-found a place d =
+      let f = d .finds a place refl in
+      record {
+        over = against-pairs m q marks (d .state);
+        found = d .state .found;
+        finds = λ p h.
+            let e : place ≡ p = some-is h in
+            subst (λ z. (a : ℕ) × (a < 256) × (z < q .len) × (under-at m L a (node q z) ≡ true) × ((i : ℕ) → i < q .len → from q i ≡ i → over-at m L a (node q i) ≡ true)) e
+            (a, f .1, f .2, sym (under-is m L loads bounded loads-right a (node q place) (d .state .inside place (f .2))) ∙ f .3, f .4);
+        misses = λ h. absurd (no-none h);
+      }
+    where
+      some-is : {p : ℕ} → _≡_ {A = Option ℕ} (Some place) (Some p) → place ≡ p
+      some-is h = cc
+
+      no-none : _≡_ {A = Option ℕ} (Some place) None → ⊥
+      no-none h = let z : _≡_ {A = ℕ} 0 1 = cc in omega arith
+
+  pub uneven-none : Descended m L (under loads L (m .buses) (m .posts)) 0 q marks None → Uneven m L q None
+  uneven-none d = record {
+    over = against-pairs m q marks (d .state);
+    found = d .state .found;
+    finds = λ p h. absurd (no-some p h);
+    misses = λ _. clear-even m L right (λ c l.
+        let k = d .misses refl .0 c (omega arith) l in
+        record { set-of = k .set-of; reach = k .reach; unsought = λ n w e. sym (under-is m L loads bounded loads-right c n w) ∙ k .unsought n w e });
+  }
+    where
+      no-some : (p : ℕ) → _≡_ {A = Option ℕ} None (Some p) → ⊥
+      no-some p h = let z : _≡_ {A = ℕ} 0 1 = cc in omega arith
