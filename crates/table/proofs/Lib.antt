@@ -3,5 +3,5 @@ pub mod Trails
 pub mod Counting
 pub mod TurningSome
 pub mod SettlingBuses
-pub mod Evening
+pub mod EvenSides
 pub mod Descending

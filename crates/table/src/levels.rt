@@ -64,7 +64,7 @@ pub(crate) struct AtLevel<'a, G> {
     level: u16,
 }
 
-impl<G: LevelGoal> Goal for AtLevel<'_, G> as AtLevelGoal {
+pub(crate) impl<G: LevelGoal> Goal for AtLevel<'_, G> as AtLevelGoal {
     ghost wanted = { λ a. G·LevelGoal .sought (now (a .goal)) (a .level) };
 
     fn wanted(&self, node: u16) -> bool {
@@ -146,7 +146,7 @@ pub(crate) struct Under<'a, R> {
     pub(crate) posts: u16,
 }
 
-impl<R: Rule> LevelGoal for Under<'_, R> as UnderGoal {
+pub(crate) impl<R: Rule> LevelGoal for Under<'_, R> as UnderGoal {
     ghost sought = { λ u. under (now (u .loads)) (R·Rule .limits (now (u .rule))) (u .buses) (u .posts) };
 
     fn sought(&self, level: u16, node: u16) -> bool {

@@ -7,14 +7,14 @@ use mathlib.Core.List.{List, [], _∷_}
 use native.Mathlib.Omega.{arith}
 use lib.Dec.{ltb, leb, eqb}
 use lib.ListN.{getD}
-use Rattle.std.proofs.shelf.Tests.{cases-bool, cases-eq, cases-lt, both-ways, ltb-true, lt-ltb, le-leb, lt-leb, leb-true, and-parts, and-from}
+use Rattle.std.proofs.shelf.Tests.{cases-bool, cases-eq, cases-lt, both-ways, ltb-true, lt-ltb, le-leb, lt-leb, leb-true, ne-eqb, and-parts, and-from}
 use Rattle.std.proofs.shelf.Ways.{tells}
 use Rattle.std.specs.declared.option.Option.{Option}
 use Rattle.std.specs.declared.option.Option.the-variants.{Some, None}
 use Rattle.blocks.specs.Sums.{sum, bit}
 use Rattle.blocks.specs.Limits.{Limits, Rising, limit-at}
 use Rattle.blocks.specs.Yards.{Yard}
-use Rattle.blocks.specs.Networks.{Leads, Network, load, degree, Walk, here, step, Reach}
+use Rattle.blocks.specs.Networks.{Leads, Network, load, degree, over, Walk, here, step, Reach}
 use Rattle.blocks.specs.Chains.{NoneOf, Chain, end, next-in, turned}
 use Rattle.blocks.specs.Sides.{Sides, Even, pointing, in-chain, flipped, all-over}
 use Rattle.blocks.proofs.Sums.{sum-cong, sum-none, sum-split}
@@ -32,7 +32,7 @@ use Rattle.table.specs.Yards.{yard-of, sides-of, leads-of, joined, along}
 use Rattle.table.specs.Searches.{node, from, marked, Searched, Trail, at-start, earlier, OverPairs, TurnedBack}
 use Rattle.table.specs.Levels.{against, size, load-of, over-at, under-at, under, LoadsOf, BusesWithin, Upward, Clear, Descended}
 use Rattle.table.specs.Buses.{is-on, on-side, pairs-of, BusesRight, SamePairs}
-use Rattle.table.specs.Evening.{EvenSides, Uneven, Settled}
+use Rattle.table.specs.Evening.{EvenSides, Uneven, Settled, unevenness}
 use Rattle.table.proofs.Searching.{within}
 use Rattle.table.proofs.Trails.{trail-none}
 use Rattle.table.proofs.Descending.{sized}
@@ -231,3 +231,85 @@ module _ (m : Meaning) (L : Limits) (loads : List ℕ) (bounded : Bounded m) (lo
     where
       no-some : (p : ℕ) → _≡_ {A = Option ℕ} None (Some p) → ⊥
       no-some p h = let z : _≡_ {A = ℕ} 0 1 = cc in omega arith
+
+-- one chain turned from a post under its limit to one over it
+module _ (m n : Meaning) (L : Limits) (rising : Rising L) (bounded : Bounded m) (right : BusesRight m L) (q : Queue) (place : ℕ) (u : Uneven m L q (Some place)) (t : TurnedBack q place m n) where
+  abbrev level : ℕ
+  level = u .finds place refl .0
+
+  inside : place < q .len
+  inside = u .finds place refl .2
+
+  the-chain : Chain (leads-of m) (node q place) (t .trail) × ((r : ℕ) × (r < q .len) × (from q r ≡ r) × (end (node q place) (t .trail) ≡ node q r))
+  the-chain = trail-chain m q (u .over) (u .found) place (t .trail) (t .is-trail) inside
+
+  last-in : end (node q place) (t .trail) < size m
+  last-in = let c = the-chain .1 in let w = u .over .inside (c .0) (c .1) in let e = c .3 in omega arith
+
+  last-over : limit-at (m .buses) L level (end (node q place) (t .trail)) < load-of m (end (node q place) (t .trail))
+  last-over =
+      let c = the-chain .1 in
+      let o = u .finds place refl .4 (c .0) (c .1) (c .2) in
+      subst (λ z. limit-at (m .buses) L level z < load-of m z) (sym (c .3)) (ltb-true (limit-at (m .buses) L level (node q (c .0))) (load-of m (node q (c .0))) o)
+
+  first-post : m .buses ≤ node q place
+  first-post = leb-true (m .buses) (node q place) (and-parts (leb (m .buses) (node q place)) (ltb (load-of m (node q place)) (limit-at (m .buses) L level (node q place))) (u .finds place refl .3) .0)
+
+  first-under : load-of m (node q place) < limit-at (m .buses) L level (node q place)
+  first-under = ltb-true (load-of m (node q place)) (limit-at (m .buses) L level (node q place)) (and-parts (leb (m .buses) (node q place)) (ltb (load-of m (node q place)) (limit-at (m .buses) L level (node q place))) (u .finds place refl .3) .1)
+
+  last-post : m .buses ≤ end (node q place) (t .trail)
+  last-post = elim (cases-lt (end (node q place) (t .trail)) (m .buses)) [
+    | inr h ↦ h
+    | inl h ↦ absurd (omega (arith, right-within m L right (end (node q place) (t .trail)) h, at-bus (yard-of m) L level (end (node q place) (t .trail)) h, last-over))
+  ]
+
+  -- the sides were not even
+  pub was-uneven : EvenSides m L → ⊥
+  was-uneven even =
+      even .post level (node q place) (t .trail) (u .finds place refl .1) first-post (u .over .inside place inside) last-post last-in (the-chain .0) first-under last-over
+
+  -- less is carried beyond the limits
+  pub unevenness-falls : unevenness n L < unevenness m L
+  unevenness-falls =
+      let f = settling-ends (yard-of m) L (sides-of m) rising (sized m bounded) level (node q place) (t .trail) (let w = u .finds place refl .1 in omega arith) (the-chain .0) (u .over .inside place inside) last-in first-under last-over in
+      subst (λ k. unevenness k L < unevenness m L) (sym (t .changes))
+      (subst (λ g. sum 256 (λ a. over (size m) (load (size m) g) (limit-at (m .buses) L a)) < unevenness m L) (sym (along-leads m (node q place) (t .trail))) f)
+
+  pub turned-pairs : SamePairs m n
+  turned-pairs = subst (SamePairs m) (sym (t .changes)) (record { buses = refl; posts = refl; same = λ c p. along-paired m (node q place) (t .trail) c p })
+
+  -- the buses carry what they carried
+  same-load : (b : ℕ) → b < m .buses → load-of (along (node q place) (t .trail) m) b ≡ load-of m b
+  same-load b lb =
+      let e = ap (λ g. load (size m) g b) (along-turned m (node q place) (t .trail) (the-chain .0)) in
+      let c = chain-load (size m) (node q place) (t .trail) (leads-of m) (net-of (yard-of m) (sides-of m) (sized m bounded)) (the-chain .0) b in
+      let x : bit (eqb b (node q place)) ≡ 0 = ap bit (ne-eqb b (node q place) (λ i. let f = first-post in omega arith)) in
+      let y : bit (eqb b (end (node q place) (t .trail))) ≡ 0 = ap bit (ne-eqb b (end (node q place) (t .trail)) (λ i. let f = last-post in omega arith)) in
+      omega arith
+
+  same-pairs : (b : ℕ) → pairs-of (along (node q place) (t .trail) m) b ≡ pairs-of m b
+  same-pairs b = sum-cong (m .posts) _ _ (λ p _. ap bit (along-paired m (node q place) (t .trail) b p))
+
+  pub buses-stay : BusesRight n L
+  buses-stay =
+      subst (λ k. BusesRight k L) (sym (t .changes))
+      (λ b lb. sym (bus-load (along (node q place) (t .trail) m) b lb) ∙ same-load b lb ∙ bus-load m b lb ∙ right b lb ∙ ap (min (L .bus b)) (sym (same-pairs b)))
+
+-- while chains are turned: the buses are right, only sides have changed, and none has if they were even
+pub record Evening (m n : Meaning) (L : Limits) : Type 0 where
+  pub pairs : SamePairs m n
+  pub right : BusesRight n L
+  pub same : EvenSides m L → n ≡ m
+
+pub evening-more : (m n k : Meaning) (L : Limits) → Rising L → Bounded n → Evening m n L → (q : Queue) (place : ℕ) → Uneven n L q (Some place) → TurnedBack q place n k → Evening m k L
+evening-more m n k L rising bounded e q place u t =
+    let p = turned-pairs n k L rising bounded (e .right) q place u t in
+    record {
+      pairs = record { buses = p .buses ∙ e .pairs .buses; posts = p .posts ∙ e .pairs .posts; same = λ c r. p .same c r ∙ e .pairs .same c r };
+      right = buses-stay n k L rising bounded (e .right) q place u t;
+      same = λ even. absurd (was-uneven n k L rising bounded (e .right) q place u t (subst (λ z. EvenSides z L) (sym (e .same even)) even));
+    }
+
+pub evening-end : (m n : Meaning) (L : Limits) → Evening m n L → (q : Queue) → Uneven n L q None → Settled m n L
+evening-end m n L e q u = record { pairs = e .pairs; even = u .misses refl; same = e .same }
