@@ -31,8 +31,8 @@ use Rattle.table.specs.declared.queues.Queue.{Queue}
 use Rattle.table.specs.Yards.{yard-of, sides-of, leads-of, joined, along}
 use Rattle.table.specs.Searches.{node, from, marked, Searched, Trail, at-start, earlier, OverPairs, TurnedBack}
 use Rattle.table.specs.Levels.{against, size, load-of, over-at, under-at, under, LoadsOf, BusesWithin, Upward, Clear, Descended}
-use Rattle.table.specs.Buses.{is-on, on-side, pairs-of, BusesRight, SamePairs}
-use Rattle.table.specs.Evening.{EvenSides, Uneven, Settled, unevenness}
+use Rattle.table.specs.Buses.{is-on, on-side, pairs-of, BusesRight, SamePairs, BusesSettled}
+use Rattle.table.specs.Evening.{EvenSides, Uneven, ChainTurned, Settled, unevenness}
 use Rattle.table.proofs.Searching.{within}
 use Rattle.table.proofs.Trails.{trail-none}
 use Rattle.table.proofs.Descending.{sized}
@@ -302,14 +302,45 @@ pub record Evening (m n : Meaning) (L : Limits) : Type 0 where
   pub right : BusesRight n L
   pub same : EvenSides m L → n ≡ m
 
-pub evening-more : (m n k : Meaning) (L : Limits) → Rising L → Bounded n → Evening m n L → (q : Queue) (place : ℕ) → Uneven n L q (Some place) → TurnedBack q place n k → Evening m k L
-evening-more m n k L rising bounded e q place u t =
-    let p = turned-pairs n k L rising bounded (e .right) q place u t in
+pub evening-none : (m : Meaning) (L : Limits) → BusesRight m L → Evening m m L
+evening-none m L right = record { pairs = record { buses = refl; posts = refl; same = λ c p. refl }; right = right; same = λ _. refl }
+
+pub evening-more : (m n k : Meaning) (L : Limits) → Evening m n L → ChainTurned n k L true → Evening m k L
+evening-more m n k L e c =
+    let t = c .nearer refl in
+    let p = t .2 in
     record {
       pairs = record { buses = p .buses ∙ e .pairs .buses; posts = p .posts ∙ e .pairs .posts; same = λ c r. p .same c r ∙ e .pairs .same c r };
-      right = buses-stay n k L rising bounded (e .right) q place u t;
-      same = λ even. absurd (was-uneven n k L rising bounded (e .right) q place u t (subst (λ z. EvenSides z L) (sym (e .same even)) even));
+      right = t .1;
+      same = λ even. absurd (t .0 (subst (λ z. EvenSides z L) (sym (e .same even)) even));
     }
 
-pub evening-end : (m n : Meaning) (L : Limits) → Evening m n L → (q : Queue) → Uneven n L q None → Settled m n L
-evening-end m n L e q u = record { pairs = e .pairs; even = u .misses refl; same = e .same }
+-- the buses made right first, and then all chains turned
+pub settled-whole : (m n k j : Meaning) (L : Limits) → BusesSettled m n L → Evening n k L → ChainTurned k j L false → Settled m j L
+settled-whole m n k j L s e c =
+    let t = c .even refl in
+    subst (λ z. Settled m z L) (sym (t .1)) (record {
+      pairs = record {
+        buses = e .pairs .buses ∙ s .pairs .buses;
+        posts = e .pairs .posts ∙ s .pairs .posts;
+        same = λ b p. e .pairs .same b p ∙ s .pairs .same b p;
+      };
+      even = t .0;
+      same = λ even.
+          let first = s .same (even-right m L even) in
+          e .same (subst (λ z. EvenSides z L) (sym first) even) ∙ first;
+    })
+
+pub chain-turned : (m n : Meaning) (L : Limits) → Rising L → Bounded m → BusesRight m L → (q : Queue) (place : ℕ) → Uneven m L q (Some place) → TurnedBack q place m n → ChainTurned m n L true
+chain-turned m n L rising bounded right q place u t = record {
+  even = λ h. absurd (both-ways true h refl);
+  nearer = λ _. (
+    was-uneven m n L rising bounded right q place u t,
+    buses-stay m n L rising bounded right q place u t,
+    turned-pairs m n L rising bounded right q place u t,
+    unevenness-falls m n L rising bounded right q place u t,
+  );
+}
+
+pub none-turned : (m : Meaning) (L : Limits) (q : Queue) → Uneven m L q None → ChainTurned m m L false
+none-turned m L q u = record { even = λ _. (u .misses refl, refl); nearer = λ h. absurd (both-ways false refl h) }
