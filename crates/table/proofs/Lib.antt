@@ -4,4 +4,5 @@ pub mod Counting
 pub mod TurningSome
 pub mod SettlingBuses
 pub mod EvenSides
+pub mod Ranking
 pub mod Descending

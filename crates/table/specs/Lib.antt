@@ -4,3 +4,4 @@ pub mod Searches
 pub mod Levels
 pub mod Buses
 pub mod Evening
+pub mod Reports

@@ -6,5 +6,6 @@ pub mod guards;
 mod levels;
 pub mod networks;
 pub mod queues;
+mod reports;
 pub mod searches;
 mod turning;
