@@ -1,16 +1,15 @@
 -- The pairs of a chain turned, as sides: what the network of the yard becomes, and one pair at a time.
-use mathlib.Core.Path.{_≡_, refl, sym, _∙_, ap, fun-ext}
+use mathlib.Core.Path.{_≡_, sym, _∙_, ap, fun-ext}
 use mathlib.Core.Bool.{Bool, true, false, cond, not, _&&_, _||_}
-use mathlib.Core.Logic.{_⊎_, inl, inr}
-use mathlib.Core.List.{List, [], _∷_}
+use mathlib.Core.Logic.{inl, inr}
+use mathlib.Core.List.{List}
 use Prim.Native.Nat.{ℕ, _+_, _-_, _≤_, _<_}
 use native.Mathlib.Omega.{arith}
-use lib.Dec.{eqb, ltb, leb}
 use Rattle.std.proofs.shelf.Tests.{cases-lt}
 use Rattle.std.proofs.shelf.Ways.{tells}
-use Rattle.blocks.specs.Chains.{NoneOf, Chain, next-in, turned}
-use Rattle.blocks.specs.Sides.{Sides, pointing, put, in-chain, flipped}
-use Rattle.blocks.proofs.Chains.{chain-exactly, next-absent}
+use Rattle.blocks.specs.Chains.{Chain, next-in, turned}
+use Rattle.blocks.specs.Sides.{Sides, pointing, flipped}
+use Rattle.blocks.proofs.Chains.{chain-exactly}
 use Rattle.blocks.proofs.OldChains.{linked-leads}
 
 -- the network, by kinds of nodes

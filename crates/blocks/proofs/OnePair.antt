@@ -1,22 +1,21 @@
 -- One pair more or less in a yard with even sides, and one chain turned after it.
-use mathlib.Core.Path.{_≡_, refl, sym, _∙_, ap, subst, fun-ext}
+use mathlib.Core.Path.{_≡_, sym, _∙_, ap, subst, fun-ext}
 use mathlib.Core.Bool.{Bool, true, false, cond, not, _&&_, _||_}
-use mathlib.Core.Logic.{_⊎_, inl, inr}
-use mathlib.Core.List.{List, [], _∷_}
-use Prim.Native.Nat.{ℕ, suc, _+_, _-_, _≤_, _<_}
+use mathlib.Core.Logic.{inl, inr}
+use mathlib.Core.List.{List, []}
+use Prim.Native.Nat.{ℕ, _+_, _-_, _≤_, _<_}
 use native.Mathlib.Omega.{arith}
-use lib.Dec.{eqb, ltb, leb}
-use Rattle.std.proofs.shelf.Tests.{cases-bool, cases-lt, cases-eq, both-ways}
+use Rattle.std.proofs.shelf.Tests.{cases-eq, both-ways}
 use Rattle.std.proofs.shelf.Ways.{tells}
 use Rattle.blocks.specs.Limits.{Limits, Rising, limit-at}
 use Rattle.blocks.specs.Yards.{Yard, nodes, add, drop}
-use Rattle.blocks.specs.Networks.{Leads, Network, load, degree, Walk}
+use Rattle.blocks.specs.Networks.{Leads, load, degree, Walk}
 use Rattle.blocks.specs.Chains.{Chain, end, next-in, turned, with-lead, without-lead}
 use Rattle.blocks.specs.Sides.{Sides, Sized, Even, EvenNetwork, pointing, put, flipped, OneChainTurned}
 use Rattle.blocks.proofs.Evenness.{even-added-to-bus, even-added-to-post, even-dropped, even-dropped-light}
 use Rattle.blocks.proofs.OldChains.{one-old-chain, chain-narrower}
 use Rattle.blocks.proofs.Pointing.{added-to-post, added-to-bus, dropped-from-post, dropped-from-bus}
-use Rattle.blocks.proofs.Flips.{from-bus, from-post, low, high, flip-turns}
+use Rattle.blocks.proofs.Flips.{from-bus, flip-turns}
 use Rattle.blocks.proofs.Levels.{at-bus}
 use Rattle.blocks.proofs.Yards.{levels, net-of}
 

@@ -1,10 +1,8 @@
 -- From yards to networks.
-use mathlib.Core.Path.{_≡_, refl, sym, _∙_, ap, subst, fun-ext}
-use mathlib.Core.Bool.{Bool, true, false, cond, _&&_}
-use mathlib.Core.Logic.{inl, inr}
+use mathlib.Core.Path.{_≡_, sym, _∙_}
+use mathlib.Core.Bool.{Bool, true, false, _&&_}
 use Prim.Native.Nat.{ℕ, _+_, _-_, _<_}
 use native.Mathlib.Omega.{arith}
-use Rattle.std.proofs.shelf.Tests.{cases-lt, lt-ltb, le-ltb}
 use Rattle.std.proofs.shelf.Ways.{tells}
 use Rattle.blocks.specs.Sums.{sum, bit}
 use Rattle.blocks.specs.Sets.{Set}
@@ -12,7 +10,6 @@ use Rattle.blocks.specs.Yards.{Yard, pairs, add, drop}
 use Rattle.blocks.specs.Networks.{Network, leads-in}
 use Rattle.blocks.specs.Chains.{with-lead, without-lead}
 use Rattle.blocks.specs.Sides.{Sides, pointing, put}
-use mathlib.Core.List.{List, [], _∷_}
 use Rattle.blocks.proofs.Sums.{sum-cong, sum-add, sum-swap, sum-none, sum-split}
 use Rattle.blocks.proofs.Pairs.{yard}
 

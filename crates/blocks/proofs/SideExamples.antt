@@ -1,8 +1,8 @@
 -- The table of sides holds: one computed test, and what it says of each row.
-use Prim.Native.Nat.{ℕ, zero, suc, _+_, _-_, _*_, _<_, _≤_, min}
+use Prim.Native.Nat.{ℕ, zero, suc, _-_, _<_, _≤_, min}
 use mathlib.Core.Path.{_≡_, refl, sym, ap, subst, _∙_}
 use mathlib.Core.Bool.{Bool, true, false, cond, _&&_}
-use mathlib.Core.Logic.{_⊎_, inl, inr}
+use mathlib.Core.Logic.{inl, inr}
 use mathlib.Core.List.{List, [], _∷_, map}
 use native.Mathlib.Omega.{arith}
 use lib.Dec.{eqb, leb, ltb}
@@ -14,13 +14,13 @@ use Rattle.blocks.specs.Sets.{largest}
 use Rattle.blocks.specs.Limits.{Limits, Rising, limit, limit-at}
 use Rattle.blocks.specs.Yards.{Yard, nodes, pairs, exchange}
 use Rattle.blocks.specs.Blocks.{excess, shortfall, shortfall-at}
-use Rattle.blocks.specs.Networks.{Leads, load, degree, over, leads-in, Tight}
+use Rattle.blocks.specs.Networks.{Leads, load, degree, over}
 use Rattle.blocks.specs.Sides.{Sides, Sized, Even, pointing, post-load}
 use Rattle.blocks.specs.Examples.{Pair, Example, SideExample, listed, listed-yard, yard-of, limits-of, sides-of, RightSides, side-examples}
 use Rattle.blocks.proofs.Examples.{from, getD-from, climbing}
-use Rattle.blocks.proofs.Evenness.{even-tight, tight-even}
+use Rattle.blocks.proofs.Evenness.{tight-even}
 use Rattle.blocks.proofs.Levels.{at-bus}
-use Rattle.blocks.proofs.Tightness.{tight-shortfall, shortfall-tight}
+use Rattle.blocks.proofs.Tightness.{shortfall-tight}
 use Rattle.blocks.proofs.Yards.{levels, net-of, over-shortfall, shortfall-of-leads}
 
 -- every number below n passes

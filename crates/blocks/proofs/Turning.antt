@@ -1,26 +1,22 @@
 -- One pair more or less turns one chain; every yard has even sides.
-use mathlib.Core.Path.{_≡_, refl, sym, _∙_, ap, subst, fun-ext}
-use mathlib.Core.Bool.{Bool, true, false, cond, not, _&&_, _||_}
-use mathlib.Core.Logic.{_⊎_, inl, inr}
-use mathlib.Core.List.{List, []}
-use Prim.Native.Nat.{ℕ, _+_, _-_, _≤_, _<_}
+use mathlib.Core.Path.{_≡_, sym, _∙_, ap, subst, fun-ext}
+use mathlib.Core.Bool.{Bool, true, false, not, _&&_}
+use mathlib.Core.Logic.{inl, inr}
+use Prim.Native.Nat.{ℕ, _+_, _-_, _<_}
 use native.Mathlib.Omega.{arith}
-use lib.Dec.{eqb, ltb, leb}
 use Rattle.std.proofs.shelf.Tests.{cases-bool, cases-lt}
-use Rattle.std.proofs.shelf.Ways.{tells}
 use Rattle.blocks.specs.Sums.{bit}
 use Rattle.blocks.specs.Limits.{Limits, Rising, limit-at}
-use Rattle.blocks.specs.Yards.{Yard, nodes, add, drop}
-use Rattle.blocks.specs.Networks.{Leads, Network, load, degree, Walk}
-use Rattle.blocks.specs.Chains.{Chain, end, turned, with-lead, without-lead}
+use Rattle.blocks.specs.Yards.{Yard, nodes, drop}
+use Rattle.blocks.specs.Networks.{Leads, Network, load, degree}
+use Rattle.blocks.specs.Chains.{Chain, without-lead}
 use Rattle.blocks.specs.Sides.{Sides, Sized, Even, EvenNetwork, Crossing, pointing, put, flipped, OneChainTurned}
 use Rattle.blocks.specs.Theorems.{Addition-turns-one-chain, Drop-turns-one-chain, Even-exists}
 use Rattle.blocks.proofs.EvenExists.{SamePairs, even-exists}
-use Rattle.blocks.proofs.Flips.{from-bus, from-post, low, high, flip-turns}
+use Rattle.blocks.proofs.Flips.{from-bus, from-post, low, high}
 use Rattle.blocks.proofs.Levels.{at-bus}
 use Rattle.blocks.proofs.OneChain.{addition, dropping}
 use Rattle.blocks.proofs.OnePair as one-pair
-use Rattle.blocks.proofs.OldChains.{one-old-chain, chain-narrower}
 use Rattle.blocks.proofs.Yards.{levels, net-of}
 
 -- every pair joins a bus and a post

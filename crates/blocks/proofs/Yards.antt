@@ -1,22 +1,20 @@
 -- The theory of sides, brought to yards: what even sides tell, and what one pair more or less turns.
-use mathlib.Core.Path.{_≡_, refl, sym, _∙_, ap, subst, fun-ext}
-use mathlib.Core.Bool.{Bool, true, false, cond, not, _&&_, _||_}
-use mathlib.Core.Logic.{_⊎_, inl, inr}
-use mathlib.Core.List.{List, [], _∷_}
-use Prim.Native.Nat.{ℕ, zero, suc, _+_, _-_, _≤_, _<_}
+use mathlib.Core.Path.{_≡_, sym, _∙_, ap, subst}
+use mathlib.Core.Bool.{true, cond}
+use mathlib.Core.Logic.{inl, inr}
+use Prim.Native.Nat.{ℕ, suc, _-_, _≤_, _<_}
 use native.Mathlib.Omega.{arith}
-use lib.Dec.{eqb, ltb, leb}
-use Rattle.std.proofs.shelf.Tests.{cases-bool, cases-lt, cases-eq}
-use Rattle.std.proofs.shelf.Ways.{tells}
+use lib.Dec.{eqb}
+use Rattle.std.proofs.shelf.Tests.{cases-lt, cases-eq}
 use Rattle.blocks.specs.Sums.{sum, bit}
 use Rattle.blocks.specs.Sets.{Set}
 use Rattle.blocks.specs.Limits.{Limits, Rising, limit-at}
-use Rattle.blocks.specs.Yards.{Yard, nodes, pairs, add, drop}
-use Rattle.blocks.specs.Blocks.{Shortfall, block, block-at, shortfall-at}
-use Rattle.blocks.specs.Networks.{Leads, Network, load, degree, over, leads-in, Walk, here, step, Reach}
-use Rattle.blocks.specs.Chains.{Chain, end, next-in, turned, with-lead, without-lead}
-use Rattle.blocks.specs.Sides.{Sides, Sized, Even, EvenNetwork, Levels, Crossing, pointing, put, in-chain, flipped, post-load, ChainToOver, all-over}
-use Rattle.blocks.specs.Theorems.{Sides-tell-block, Sides-tell-shortfall, Chain-moves, Settling-ends, Even-exists}
+use Rattle.blocks.specs.Yards.{Yard, nodes, pairs}
+use Rattle.blocks.specs.Blocks.{Shortfall, block-at, shortfall-at}
+use Rattle.blocks.specs.Networks.{Network, load, over, leads-in, Walk, here, step, Reach}
+use Rattle.blocks.specs.Chains.{end}
+use Rattle.blocks.specs.Sides.{Sides, Sized, Even, Levels, pointing, post-load, ChainToOver, all-over}
+use Rattle.blocks.specs.Theorems.{Sides-tell-block, Sides-tell-shortfall, Chain-moves, Settling-ends}
 use Rattle.blocks.proofs.Sums.{sum-cong}
 use Rattle.blocks.proofs.Pairs.{yard}
 use Rattle.blocks.proofs.Levels.{at-bus, at-post, level-rise, rise-le}
@@ -25,7 +23,6 @@ use Rattle.blocks.proofs.Shortfalls.{is-shortfall}
 use Rattle.blocks.proofs.Reaching.{reach-set}
 use Rattle.blocks.proofs.Chains.{chain-load, chain-walk, walk-chain}
 use Rattle.blocks.proofs.Changes.{settling}
-use Rattle.blocks.proofs.EvenExists.{even-exists}
 use Rattle.blocks.proofs.Pointing.{yard-net, yard-pairs}
 use Rattle.blocks.proofs.Exists.{shortfall-is}
 use Rattle.blocks.proofs.Evenness.{even-tight}

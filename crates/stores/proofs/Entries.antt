@@ -16,7 +16,7 @@ use Rattle.stores.specs.declared.pairs.Side.the-variants.{Bus as bus-side, Pos
 use Rattle.stores.specs.declared.pairs.Standing.{Standing}
 use Rattle.stores.specs.declared.pairs.Standing.the-variants.{Absent}
 use Rattle.stores.specs.declared.rolls.Entry.{Entry}
-use Rattle.stores.specs.Meaning.{Meaning, empty, carried, put}
+use Rattle.stores.specs.Meaning.{Meaning, empty, carried}
 use Rattle.stores.specs.Rolls.{Admitted, Ascending, key, key-of, blank, names, standing, meaning}
 
 pub empty-means : (buses posts : ℕ) → meaning [] buses posts ≡ empty buses posts

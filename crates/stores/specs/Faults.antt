@@ -1,8 +1,5 @@
 -- The number of each store fault, and what it holds.
 use Prim.Native.Nat.{ℕ}
-use mathlib.Core.Path.{_≡_}
-use Rattle.std.specs.declared.result.Result.{Result}
-use Rattle.std.specs.declared.result.Result.the-variants.{Ok, Err}
 use Rattle.stores.specs.declared.faults.StoreFault.{StoreFault}
 use Rattle.stores.specs.declared.faults.StoreFault.the-variants.{NoBus, NoPost, Stands, Absent, Full}
 

@@ -2,7 +2,7 @@ ghost use mathlib.Core.Path.{_≡_};
 ghost use Prim.Native.Nat.{_+_, _-_, _<_, _≤_};
 ghost use lib.ListN.{length, take};
 ghost use Rattle.std.specs.shelf.Lists.{inserted, removed};
-ghost use Rattle.stores.specs.Meaning.{carried, empty, other, standing-pairs};
+ghost use Rattle.stores.specs.Meaning.{empty, standing-pairs};
 ghost use Rattle.stores.specs.Rolls.{Admitted, Ascending, Before, Found, Inside, Opened, key, meaning};
 use crate::faults::StoreFault;
 use crate::pairs::Side;

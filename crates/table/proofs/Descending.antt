@@ -1,17 +1,16 @@
 -- Going down the levels, step by step.
-use Prim.Native.Nat.{ℕ, zero, suc, _+_, _-_, _<_, _≤_}
+use Prim.Native.Nat.{ℕ, _+_, _-_, _<_, _≤_}
 use mathlib.Core.Path.{_≡_, refl, sym, ap, subst, _∙_}
-use mathlib.Core.Logic.{_⊎_, inl, inr}
-use mathlib.Core.Bool.{Bool, true, false, cond, _&&_}
+use mathlib.Core.Logic.{inl, inr}
+use mathlib.Core.Bool.{Bool, true, false}
 use mathlib.Core.List.{List}
 use native.Mathlib.Omega.{arith}
-use lib.Dec.{ltb, leb}
-use lib.ListN.{length, getD}
-use Rattle.std.proofs.shelf.Tests.{cases-bool, cases-eq, cases-lt, both-ways, ltb-true, lt-ltb, le-ltb}
+use lib.Dec.{ltb}
+use Rattle.std.proofs.shelf.Tests.{cases-bool, cases-eq, cases-lt, both-ways, ltb-true, lt-ltb}
 use Rattle.std.specs.declared.option.Option.{Option}
 use Rattle.std.specs.declared.option.Option.the-variants.{Some, None}
 use Rattle.blocks.specs.Limits.{Limits, Rising, limit-at}
-use Rattle.blocks.specs.Networks.{Leads, Network, load, Walk, Reach}
+use Rattle.blocks.specs.Networks.{Walk, Reach}
 use Rattle.blocks.specs.Sides.{Sized, post-load}
 use Rattle.blocks.proofs.Chains.{chain-walk}
 use Rattle.blocks.proofs.Levels.{at-bus, at-post}
@@ -22,7 +21,7 @@ use Rattle.stores.specs.Meaning.{Meaning, Bounded, stands}
 use Rattle.table.specs.declared.queues.Queue.{Queue}
 use Rattle.table.specs.Yards.{yard-of, sides-of, leads-of}
 use Rattle.table.specs.Searches.{node, from, marked, Searched, Started, Grown, Sought}
-use Rattle.table.specs.Levels.{against, size, load-of, over-at, under-at, BusesWithin, Upward, Clear, OverStarted, Descended}
+use Rattle.table.specs.Levels.{against, size, load-of, over-at, BusesWithin, Upward, Clear, OverStarted, Descended}
 
 -- what stands lies within the sizes
 pub sized : (m : Meaning) → Bounded m → Sized (yard-of m)

@@ -2,36 +2,34 @@
 use Prim.Native.Nat.{ℕ, zero, suc, _+_, _-_, _<_, _≤_, min}
 use mathlib.Core.Path.{_≡_, refl, sym, ap, ap₂, subst, _∙_, fun-ext}
 use mathlib.Core.Logic.{_⊎_, inl, inr}
-use mathlib.Core.Bool.{Bool, true, false, cond, not, _&&_, _||_}
-use mathlib.Core.List.{List, [], _∷_}
+use mathlib.Core.Bool.{Bool, true, false, cond, not, _&&_}
+use mathlib.Core.List.{List}
 use native.Mathlib.Omega.{arith}
 use lib.Dec.{ltb, leb, eqb}
 use lib.ListN.{getD}
-use Rattle.std.proofs.shelf.Tests.{cases-bool, cases-eq, cases-lt, both-ways, ltb-true, lt-ltb, le-leb, lt-leb, leb-true, ne-eqb, and-parts, and-from}
-use Rattle.std.proofs.shelf.Ways.{tells}
+use Rattle.std.proofs.shelf.Tests.{cases-eq, cases-lt, both-ways, ltb-true, lt-ltb, le-leb, lt-leb, leb-true, ne-eqb, and-parts, and-from}
 use Rattle.std.specs.declared.option.Option.{Option}
 use Rattle.std.specs.declared.option.Option.the-variants.{Some, None}
 use Rattle.blocks.specs.Sums.{sum, bit}
 use Rattle.blocks.specs.Limits.{Limits, Rising, limit-at}
-use Rattle.blocks.specs.Yards.{Yard}
-use Rattle.blocks.specs.Networks.{Leads, Network, load, degree, over, Walk, here, step, Reach}
-use Rattle.blocks.specs.Chains.{NoneOf, Chain, end, next-in, turned}
-use Rattle.blocks.specs.Sides.{Sides, Even, pointing, in-chain, flipped, all-over}
+use Rattle.blocks.specs.Networks.{load, degree, over, Walk, here, step}
+use Rattle.blocks.specs.Chains.{Chain, end, turned}
+use Rattle.blocks.specs.Sides.{Sides, pointing, in-chain, flipped}
 use Rattle.blocks.proofs.Sums.{sum-cong, sum-none, sum-split}
 use Rattle.blocks.proofs.Chains.{chain-walk, chain-load}
 use Rattle.blocks.proofs.Flips.{low, high, from-bus, from-post, flip-turns}
 use Rattle.blocks.proofs.Levels.{at-bus, at-post}
 use Rattle.blocks.proofs.Reading as reading
-use Rattle.blocks.proofs.Yards.{levels, net-of, settling-ends}
+use Rattle.blocks.proofs.Yards.{net-of, settling-ends}
 use Rattle.stores.specs.Meaning.{Meaning, Bounded, stands, by-post, other}
 use Rattle.stores.specs.declared.pairs.Standing.{Standing}
 use Rattle.stores.specs.declared.pairs.Standing.the-variants.{Absent, Bus, Post}
-use Rattle.stores.specs.declared.pairs.Side.the-variants.{Bus as bus-side, Post as post-side}
+use Rattle.stores.specs.declared.pairs.Side.the-variants.{Bus as bus-side}
 use Rattle.table.specs.declared.queues.Queue.{Queue}
-use Rattle.table.specs.Yards.{yard-of, sides-of, leads-of, joined, along}
-use Rattle.table.specs.Searches.{node, from, marked, Searched, Trail, at-start, earlier, OverPairs, TurnedBack}
+use Rattle.table.specs.Yards.{yard-of, sides-of, leads-of, along}
+use Rattle.table.specs.Searches.{node, from, Searched, Trail, at-start, earlier, OverPairs, TurnedBack}
 use Rattle.table.specs.Levels.{against, size, load-of, over-at, under-at, under, LoadsOf, BusesWithin, Upward, Clear, Descended}
-use Rattle.table.specs.Buses.{is-on, on-side, pairs-of, BusesRight, SamePairs, BusesSettled}
+use Rattle.table.specs.Buses.{on-side, pairs-of, BusesRight, SamePairs, BusesSettled}
 use Rattle.table.specs.Evening.{EvenSides, Uneven, ChainTurned, Settled, unevenness}
 use Rattle.table.proofs.Searching.{within}
 use Rattle.table.proofs.Trails.{trail-none}

@@ -1,28 +1,28 @@
 -- Blocks and ranks, read off the search down the levels.
-use Prim.Native.Nat.{ℕ, suc, _+_, _<_, _≤_}
-use mathlib.Core.Path.{_≡_, refl, sym, ap, subst, _∙_}
-use mathlib.Core.Logic.{_⊎_, inl, inr}
-use mathlib.Core.Bool.{Bool, true, false}
+use Prim.Native.Nat.{ℕ, suc, _<_, _≤_}
+use mathlib.Core.Path.{_≡_, refl, sym, subst, _∙_}
+use mathlib.Core.Logic.{inl, inr}
+use mathlib.Core.Bool.{true, false}
 use mathlib.Core.List.{List}
 use native.Mathlib.Omega.{arith}
-use lib.Dec.{eqb, ltb}
-use lib.IntN.{ℤ, pos, negsuc}
+use lib.Dec.{eqb}
+use lib.IntN.{pos, negsuc}
 use Rattle.std.proofs.shelf.Tests.{cases-eq, cases-lt, cases-bool, both-ways, eqb-true, eq-eqb, ltb-true}
 use Rattle.std.specs.declared.option.Option.{Option}
 use Rattle.std.specs.declared.option.Option.the-variants.{Some, None}
 use Rattle.blocks.specs.Limits.{Limits, Rising, limit-at}
 use Rattle.blocks.specs.Blocks.{block-at}
 use Rattle.blocks.specs.Ranks.{rank}
-use Rattle.blocks.specs.Chains.{Chain, end}
+use Rattle.blocks.specs.Chains.{end}
 use Rattle.blocks.proofs.Posts.{top-empty}
 use Rattle.blocks.proofs.Ranks.{rank-is, rank-none}
 use Rattle.blocks.proofs.Yards.{reach-is-block, chain-block}
 use Rattle.blocks.proofs.Levels.{at-bus}
 use Rattle.stores.specs.Meaning.{Meaning, Bounded}
 use Rattle.table.specs.declared.queues.Queue.{Queue}
-use Rattle.table.specs.Yards.{yard-of, sides-of, leads-of}
-use Rattle.table.specs.Searches.{node, from, marked}
-use Rattle.table.specs.Levels.{against, size, load-of, over-at, Upward, Clear, Descended}
+use Rattle.table.specs.Yards.{yard-of, sides-of}
+use Rattle.table.specs.Searches.{node, marked}
+use Rattle.table.specs.Levels.{size, load-of, Upward, Clear, Descended}
 use Rattle.table.specs.Evening.{EvenSides}
 use Rattle.table.specs.Reports.{BlockMarked}
 use Rattle.table.proofs.Descending.{sized}

@@ -1,18 +1,17 @@
 -- One bus after the other made right.
 use Prim.Native.Nat.{ℕ, _+_, _-_, _<_, _≤_, min}
 use mathlib.Core.Path.{_≡_, refl, sym, ap, subst, _∙_}
-use mathlib.Core.Logic.{_⊎_, inl, inr}
-use mathlib.Core.Bool.{Bool, true, false, not, _&&_}
+use mathlib.Core.Logic.{inl, inr}
 use native.Mathlib.Omega.{arith}
-use Rattle.std.proofs.shelf.Tests.{cases-eq, cases-lt}
+use Rattle.std.proofs.shelf.Tests.{cases-eq}
 use Rattle.blocks.specs.Sums.{sum, bit}
 use Rattle.blocks.specs.Limits.{Limits}
 use Rattle.blocks.proofs.Sums.{sum-add, sum-cong}
-use Rattle.stores.specs.Meaning.{Meaning, stands, by-post}
+use Rattle.stores.specs.Meaning.{Meaning, stands}
 use Rattle.stores.specs.declared.pairs.Standing.{Standing}
 use Rattle.stores.specs.declared.pairs.Standing.the-variants.{Absent, Bus, Post}
 use Rattle.stores.specs.declared.pairs.Side.the-variants.{Bus as bus-side, Post as post-side}
-use Rattle.table.specs.Buses.{is-on, on-side, pairs-of, OnlyBus, SomeTurned, BusSettled, BusesRight, SamePairs, BusesSettled}
+use Rattle.table.specs.Buses.{is-on, on-side, pairs-of, SomeTurned, BusSettled, BusesRight, SamePairs, BusesSettled}
 
 one-side : (s : Standing) → bit (stands s) ≡ bit (is-on bus-side s) + bit (is-on post-side s)
 one-side Absent = refl

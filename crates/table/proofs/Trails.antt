@@ -1,16 +1,15 @@
 -- The way back from a place of the queue, and the pairs on it turned one after the other.
 use Prim.Native.Nat.{ℕ, zero, suc, _+_, _-_, _<_, _≤_}
 use mathlib.Core.Path.{_≡_, refl, sym, ap, ap₂, subst, _∙_, fun-ext}
-use mathlib.Core.Logic.{_⊎_, inl, inr}
+use mathlib.Core.Logic.{inl, inr}
 use mathlib.Core.Bool.{Bool, true, false, cond, not, _&&_, _||_}
-use mathlib.Core.List.{List, [], _∷_, _++_}
+use mathlib.Core.List.{List, [], _∷_}
 use native.Mathlib.Omega.{arith}
-use lib.Dec.{ltb, eqb, leb}
-use Rattle.std.proofs.shelf.Tests.{cases-bool, cases-eq, cases-lt, both-ways, eq-eqb, eqb-true, and-parts}
+use lib.Dec.{eqb}
+use Rattle.std.proofs.shelf.Tests.{cases-bool, cases-eq, cases-lt, both-ways, eqb-true, and-parts}
 use Rattle.std.proofs.shelf.Ways.{tells}
-use Rattle.blocks.specs.Networks.{Leads}
-use Rattle.blocks.specs.Chains.{NoneOf, Chain, end, next-in}
-use Rattle.blocks.specs.Sides.{in-chain, pointing}
+use Rattle.blocks.specs.Chains.{NoneOf, next-in}
+use Rattle.blocks.specs.Sides.{in-chain}
 use Rattle.blocks.proofs.Chains.{next-absent}
 use Rattle.blocks.proofs.Flips.{low, high, from-bus, from-post}
 use Rattle.stores.specs.Meaning.{Meaning, Bounded, put, other, stands, by-post}

@@ -1,14 +1,14 @@
 -- Pairs of one bus turned from one side to the other, one after the other.
 use Prim.Native.Nat.{ℕ, _+_, _-_, _<_, _≤_}
-use mathlib.Core.Path.{_≡_, refl, sym, ap, ap₂, subst, _∙_}
-use mathlib.Core.Logic.{_⊎_, inl, inr}
-use mathlib.Core.Bool.{Bool, true, false, cond, not, _&&_}
+use mathlib.Core.Path.{_≡_, refl, sym, ap, subst, _∙_}
+use mathlib.Core.Logic.{inl, inr}
+use mathlib.Core.Bool.{true, false, cond}
 use native.Mathlib.Omega.{arith}
 use lib.Dec.{eqb}
-use Rattle.std.proofs.shelf.Tests.{cases-bool, cases-eq, cases-lt, both-ways, eqb-true, eq-eqb, ne-eqb, and-parts, and-from, and-left, and-right}
-use Rattle.blocks.specs.Sums.{sum, bit}
-use Rattle.blocks.proofs.Sums.{sum-one, sum-cong, sum-none}
-use Rattle.stores.specs.Meaning.{Meaning, put, other, stands, by-post}
+use Rattle.std.proofs.shelf.Tests.{cases-eq, both-ways, eq-eqb, ne-eqb, and-from, and-left, and-right}
+use Rattle.blocks.specs.Sums.{bit}
+use Rattle.blocks.proofs.Sums.{sum-one, sum-none}
+use Rattle.stores.specs.Meaning.{Meaning, put, other, stands}
 use Rattle.stores.specs.declared.pairs.Standing.{Standing}
 use Rattle.stores.specs.declared.pairs.Standing.the-variants.{Absent, Bus, Post}
 use Rattle.stores.specs.declared.pairs.Side.{Side}

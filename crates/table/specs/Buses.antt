@@ -1,7 +1,7 @@
 -- Pairs of one bus turned, and how many of them stand one way.
-use Prim.Native.Nat.{ℕ, _+_, _<_, _≤_, min}
+use Prim.Native.Nat.{ℕ, _+_, _<_, min}
 use mathlib.Core.Path.{_≡_}
-use mathlib.Core.Bool.{Bool, true, false, _&&_, not}
+use mathlib.Core.Bool.{Bool, _&&_, not}
 use Rattle.blocks.specs.Sums.{sum, bit}
 use Rattle.blocks.specs.Limits.{Limits}
 use Rattle.stores.specs.Meaning.{Meaning, stands, by-post}

@@ -9,7 +9,6 @@ use Rattle.std.specs.declared.option.Option.{Option}
 use Rattle.std.specs.declared.option.Option.the-variants.{Some, None}
 use Rattle.blocks.specs.Sets.{Set}
 use Rattle.blocks.specs.Limits.{Limits, limit-at}
-use Rattle.blocks.specs.Yards.{nodes}
 use Rattle.blocks.specs.Networks.{Leads, load, Reach}
 use Rattle.blocks.specs.Sides.{post-load}
 use Rattle.stores.specs.Meaning.{Meaning}

@@ -1,15 +1,13 @@
 ghost use mathlib.Core.Path.{_≡_};
 ghost use mathlib.Core.Bool.{false};
-ghost use Prim.Native.Nat.{ℕ, _+_, _-_, _<_, _≤_};
+ghost use Prim.Native.Nat.{_+_, _-_, _<_, _≤_};
 ghost use lib.Dec.{eqb};
 ghost use lib.ListN.{length, replicate};
-ghost use Rattle.blocks.specs.Sums.{sum};
 ghost use Rattle.blocks.specs.Blocks.{shortfall-at};
 ghost use Rattle.blocks.specs.Ranks.{rank as rank-of};
-ghost use Rattle.blocks.specs.Sides.{post-load};
-ghost use Rattle.table.specs.Yards.{yard-of, sides-of};
+ghost use Rattle.table.specs.Yards.{yard-of};
 ghost use Rattle.table.specs.Searches.{marked};
-ghost use Rattle.table.specs.Levels.{size, LoadsOf};
+ghost use Rattle.table.specs.Levels.{size};
 ghost use Rattle.table.specs.Evening.{EvenSides};
 ghost use Rattle.table.specs.Reports.{BlockMarked, count-from, FirstMember};
 use crate::levels::LevelGoal;

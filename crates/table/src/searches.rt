@@ -1,7 +1,6 @@
 ghost use mathlib.Core.Path.{_≡_};
-ghost use mathlib.Core.Bool.{true, false};
-ghost use Prim.Native.Nat.{ℕ, _+_, _<_, _≤_};
-ghost use lib.ListN.{length, getD, set, replicate};
+ghost use Prim.Native.Nat.{_+_, _<_};
+ghost use lib.ListN.{length, set, replicate};
 ghost use Rattle.std.specs.Options.{Cases as BySome};
 ghost use Rattle.table.specs.Searches.{Searched, Pushed, Started, Followed, Sought, AllNodes, FirstStray, AllStarted, Reached};
 use crate::faults::TableFault;

@@ -1,8 +1,8 @@
-use mathlib.Core.Path.{_≡_, refl, sym, ap, subst, _∙_}
-use Prim.Native.Nat.{ℕ, _+_, _<_, _≤_}
+use mathlib.Core.Path.{subst, _∙_}
+use Prim.Native.Nat.{ℕ}
 use native.Mathlib.Omega.{arith}
 use Rattle.table.specs.Buses.{BusSettled}
-use Rattle.table.proofs.SettlingBuses.{SettlingBuses, settling-more, settling-end}
+use Rattle.table.proofs.SettlingBuses.{settling-more, settling-end}
 use Rattle.table.proofs.buses.settle_buses.Needs as need
 
 pub loop-bus-again : need.loop-bus-again

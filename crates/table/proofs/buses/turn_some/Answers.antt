@@ -1,8 +1,7 @@
-use Prim.Native.Nat.{ℕ, _+_, _-_, _<_, _≤_}
-use mathlib.Core.Path.{_≡_, refl, sym, ap, subst, _∙_}
-use mathlib.Core.Bool.{true, false}
+use Prim.Native.Nat.{_-_, _<_}
+use mathlib.Core.Path.{sym, _∙_}
 use native.Mathlib.Omega.{arith}
-use Rattle.table.proofs.TurningSome.{TurningSome, stands-on, turning-some-none, turning-some-skip, turning-some-more, turning-some-end}
+use Rattle.table.proofs.TurningSome.{stands-on, turning-some-skip, turning-some-more, turning-some-end}
 use Rattle.table.proofs.buses.turn_some.Needs.{then-left-gt0·then-carries, else-left-gt0, else-left-gt0·by·then-left-gt0·else-carries, else-left-gt0·by·else-left-gt0}
 use Rattle.table.proofs.buses.turn_some.Needs as need
 

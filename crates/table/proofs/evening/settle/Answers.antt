@@ -1,4 +1,4 @@
-use mathlib.Core.Path.{_≡_, refl, _∙_}
+use mathlib.Core.Path.{_∙_}
 use Rattle.table.proofs.EvenSides.{settled-whole}
 use Rattle.table.proofs.evening.settle.Needs as need
 

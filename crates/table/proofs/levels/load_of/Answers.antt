@@ -1,5 +1,3 @@
-use Prim.Native.Nat.{_+_}
-use mathlib.Core.Path.{_≡_, sym}
 use mathlib.Core.Bool.{true, false}
 use native.Mathlib.Omega.{arith}
 use Rattle.table.proofs.Counting.{tally-none, tally-more, carried-stands}

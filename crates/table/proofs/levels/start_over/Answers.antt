@@ -1,14 +1,13 @@
-use Prim.Native.Nat.{ℕ, _+_, _-_, _<_, _≤_}
-use mathlib.Core.Path.{_≡_, refl, sym, ap, subst, _∙_}
+use Prim.Native.Nat.{ℕ, _+_, _-_, _<_}
+use mathlib.Core.Path.{_≡_, refl, sym, subst, _∙_}
 use mathlib.Core.Bool.{true, false}
 use native.Mathlib.Omega.{arith}
-use lib.Dec.{ltb}
 use lib.ListN.{getD}
 use Rattle.std.proofs.shelf.Tests.{both-ways, lt-ltb, le-ltb}
 use Rattle.table.specs.Searches.{Started, marked}
-use Rattle.table.specs.Levels.{against, size, over-at}
+use Rattle.table.specs.Levels.{against, size}
 use Rattle.table.proofs.Searching.{is-marked, is-unmarked}
-use Rattle.table.proofs.Descending.{OverStarting, post-over, over-skip, over-more, over-found, over-end}
+use Rattle.table.proofs.Descending.{post-over, over-skip, over-more, over-found, over-end}
 use Rattle.table.proofs.levels.start_over.Needs.{then-from-post-limit·then-marks-buses-eq0·else-wanted, else-from-post-limit, else-from-post-limit·by·then-from-post-limit·else-marks-buses-eq0, else-from-post-limit·by·else-from-post-limit}
 use Rattle.table.proofs.levels.start_over.Needs as need
 

@@ -1,15 +1,11 @@
-use Prim.Native.Nat.{ℕ, _+_, _-_, _<_, _≤_}
-use mathlib.Core.Path.{_≡_, refl, sym, ap, subst, _∙_}
-use mathlib.Core.Bool.{true, false}
+use Prim.Native.Nat.{ℕ, _-_, _<_}
+use mathlib.Core.Path.{sym, subst}
 use native.Mathlib.Omega.{arith}
-use borrow.Author.Needs.{needs}
 use mathlib.Core.List.{List}
 use Rattle.std.specs.declared.option.Option.the-variants.{Some}
 use Rattle.std.proofs.shelf.Tests.{both-ways}
-use lib.ListN.{length, getD, set}
-use Rattle.table.specs.declared.queues.Queue.{Queue}
-use Rattle.table.specs.Searches.{Searched, Followed, marked}
-use Rattle.table.proofs.Searching.{is-marked, is-unmarked, space, within, Following, following-skip, following-more, followed-found, followed-none}
+use Rattle.table.specs.Searches.{Followed}
+use Rattle.table.proofs.Searching.{is-marked, is-unmarked, space, within, following-skip, following-more, followed-found}
 use Rattle.table.proofs.searches.follow.Needs.{then-marks-to-eq0·then-leads·else-wanted, else-marks-to-eq0, else-marks-to-eq0·by·then-marks-to-eq0·else-leads, else-marks-to-eq0·by·else-marks-to-eq0}
 use Rattle.table.proofs.searches.follow.Needs as need
 

@@ -1,4 +1,3 @@
-use Prim.Native.Nat.{ℕ, _+_, _<_, _≤_}
 use native.Mathlib.Omega.{arith}
 use Rattle.table.proofs.Searching.{is-unmarked, space, within, started}
 use Rattle.table.proofs.searches.start.Needs as need

@@ -1,5 +1,5 @@
-use mathlib.Core.Path.{_≡_, refl, _∙_}
-use Rattle.table.proofs.Trails.{TurningBack, turning-none, turning-more, turning-end}
+use mathlib.Core.Path.{refl, _∙_}
+use Rattle.table.proofs.Trails.{turning-none, turning-more, turning-end}
 use Rattle.table.proofs.turning.turn_back.Needs as need
 
 pub loop-at-holds : need.loop-at-holds
