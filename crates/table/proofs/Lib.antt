@@ -5,4 +5,5 @@ pub mod TurningSome
 pub mod SettlingBuses
 pub mod EvenSides
 pub mod Ranking
+pub mod Adding
 pub mod Descending

@@ -5,3 +5,4 @@ pub mod Levels
 pub mod Buses
 pub mod Evening
 pub mod Reports
+pub mod Updates

@@ -1,0 +1,36 @@
+-- One pair more or less, and one chain turned after it.
+use Prim.Native.Nat.{ℕ, _<_}
+use mathlib.Core.Path.{_≡_}
+use mathlib.Core.Logic.{_⊎_}
+use mathlib.Core.Bool.{Bool, true}
+use Rattle.blocks.specs.Limits.{Limits}
+use Rattle.blocks.specs.Yards.{add}
+use Rattle.blocks.specs.Networks.{Walk}
+use Rattle.blocks.specs.Sides.{OneChainTurned}
+use Rattle.stores.specs.Meaning.{Meaning}
+use Rattle.table.specs.declared.queues.Queue.{Queue}
+use Rattle.table.specs.Yards.{yard-of, sides-of, leads-of}
+use Rattle.table.specs.Searches.{node, from, OverPairs}
+use Rattle.table.specs.Levels.{size}
+use Rattle.table.specs.Evening.{EvenSides}
+
+-- the queue holds all that leads to the node x, which is its only start
+pub record AllLeading (m : Meaning) (x : ℕ) (q : Queue) : Type 0 where
+  pub over : OverPairs m q
+  pub found : (i : ℕ) → i < q .len → (from q i ≡ i) ⊎ ((from q i < i) × (leads-of m (node q i) (node q (from q i)) ≡ true))
+  pub some : 0 < q .len
+  pub first : node q 0 ≡ x
+  pub only : (i : ℕ) → i < q .len → from q i ≡ i → i ≡ 0
+  pub all : (n : ℕ) → n < size m → Walk (leads-of m) n x → (i : ℕ) × (i < q .len) × (node q i ≡ n)
+
+-- a place of the queue whose node is sought wherever any of its nodes is; the first place if none is sought anywhere
+pub record Chosen (sought : ℕ → ℕ → Bool) (q : Queue) (place : ℕ) : Type 0 where
+  pub inside : place < q .len
+  pub wherever : (c i : ℕ) → c < 256 → i < q .len → sought c (node q i) ≡ true → sought c (node q place) ≡ true
+  pub which : (place ≡ 0) ⊎ ((c : ℕ) × (c < 256) × (sought c (node q place) ≡ true))
+
+-- the pair has been added, the sides are even, and of the pairs that stood exactly those of one chain have turned
+pub record AddedEven (m n : Meaning) (L : Limits) (b p : ℕ) : Type 0 where
+  pub yard : yard-of n ≡ add b p (yard-of m)
+  pub even : EvenSides n L
+  pub chain : OneChainTurned (yard-of m) (yard-of m .paired) (sides-of m) (sides-of n)
