@@ -7,7 +7,8 @@ use mathlib.Core.List.{List}
 use native.Mathlib.Omega.{arith}
 use lib.Dec.{ltb, leb, eqb}
 use Rattle.std.proofs.shelf.Tests.{cases-eq, cases-lt, both-ways, ltb-true, lt-ltb, le-leb, leb-true, and-parts, and-from, or-left}
-use Rattle.std.specs.declared.option.Option.the-variants.{None}
+use Rattle.std.specs.declared.option.Option.{Option}
+use Rattle.std.specs.declared.option.Option.the-variants.{Some, None}
 use Rattle.blocks.specs.Limits.{Limits, Rising, limit-at}
 use Rattle.blocks.specs.Yards.{Yard, add}
 use Rattle.blocks.specs.Networks.{Walk, here, step}
@@ -30,10 +31,15 @@ use Rattle.table.specs.Updates.{AllLeading, Chosen, AddedEven}
 use Rattle.table.proofs.Descending.{sized}
 use Rattle.table.proofs.EvenSides.{along-yard, along-leads, against-pairs, trail-chain, under-is, bus-load}
 
--- a search against the pointing from one start finds all that leads to it
-pub all-leading : (m : Meaning) → Bounded m → (x : ℕ) (q r s : Queue) (marks marks' marks'' : List ℕ) → x < size m → q .len ≡ 0
-    → Started (against m) (size m) q r marks marks' x → Sought (against m) (size m) (λ _. false) r s marks'' None → AllLeading m x s
-all-leading m bounded x q r s marks marks' marks'' lx el st so = record {
+-- a search that wants nothing finds nothing
+wants-nothing : (m : Meaning) (r s : Queue) (marks : List ℕ) (a : Option ℕ) → Sought (against m) (size m) (λ _. false) r s marks a → a ≡ None
+wants-nothing m r s marks None so = refl
+wants-nothing m r s marks (Some i) so = absurd (both-ways false refl (so .finds i refl .2))
+
+-- so a search against the pointing from one start finds all that leads to it
+pub all-leading : (m : Meaning) → Bounded m → (x : ℕ) (q r s : Queue) (marks marks' marks'' : List ℕ) (a : Option ℕ) → x < size m → q .len ≡ 0
+    → Started (against m) (size m) q r marks marks' x → Sought (against m) (size m) (λ _. false) r s marks'' a → AllLeading m x s
+all-leading m bounded x q r s marks marks' marks'' a lx el st so = record {
   over = against-pairs m s marks'' (so .state);
   found = so .state .found;
   some = omega (arith, some-r, so .grown .longer);
@@ -61,7 +67,7 @@ all-leading m bounded x q r s marks marks' marks'' lx el st so = record {
         let ly = net-of (yard-of m) (sides-of m) (sized m bounded) .within n y k .1 in
         let f = so .state .found-marked y ly (is-marked y w ly) in
         let lf = f .1 in
-        so .state .closed (f .0) n (omega (arith, so .misses refl .0)) l (ap (leads-of m n) (f .2) ∙ k)
+        so .state .closed (f .0) n (omega (arith, so .misses (wants-nothing m r s marks'' a so) .0)) l (ap (leads-of m n) (f .2) ∙ k)
 
     leading : (n : ℕ) → Walk (leads-of m) n x → n < size m → (i : ℕ) × (i < s .len) × (node s i ≡ n)
     leading n w l = so .state .found-marked n l (is-marked n w l)

@@ -6,4 +6,5 @@ pub mod SettlingBuses
 pub mod EvenSides
 pub mod Ranking
 pub mod Adding
+pub mod Choosing
 pub mod Descending

@@ -9,3 +9,4 @@ pub mod queues;
 mod reports;
 pub mod searches;
 mod turning;
+mod updates;
