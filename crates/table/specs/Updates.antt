@@ -8,6 +8,7 @@ use Rattle.blocks.specs.Yards.{add}
 use Rattle.blocks.specs.Networks.{Walk}
 use Rattle.blocks.specs.Sides.{OneChainTurned}
 use Rattle.stores.specs.Meaning.{Meaning}
+use Rattle.stores.specs.declared.pairs.Standing.the-variants.{Absent}
 use Rattle.table.specs.declared.queues.Queue.{Queue}
 use Rattle.table.specs.Yards.{yard-of, sides-of, leads-of}
 use Rattle.table.specs.Searches.{node, from, OverPairs}
@@ -34,3 +35,10 @@ pub record AddedEven (m n : Meaning) (L : Limits) (b p : ℕ) : Type 0 where
   pub yard : yard-of n ≡ add b p (yard-of m)
   pub even : EvenSides n L
   pub chain : OneChainTurned (yard-of m) (yard-of m .paired) (sides-of m) (sides-of n)
+
+-- no refusal stands against adding the pair
+pub record Addable (m : Meaning) (room b p : ℕ) : Type 0 where
+  pub bus : b < m .buses
+  pub post : p < m .posts
+  pub absent : m .standing b p ≡ Absent
+  pub place : 0 < room
