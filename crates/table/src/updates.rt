@@ -91,3 +91,25 @@ fn add_to_post<S: Store, R: Rule>(store: &mut S, rule: &R, bus: u16, post: u16, 
     let place = lowest(&goal, &queue);
     turn_back(store, &queue, place);
 }
+
+// Adds an absent pair to even sides, and turns one chain so that they stay even.
+pub(crate) fn add_even<S: Store, R: Rule>(
+    store: &mut S,
+    rule: &R,
+    bus: u16,
+    post: u16,
+    marks: &mut [u8],
+)
+    requires long { ⌜ size (S·View .means (now store)) ≤ length (now marks) ⌝ }
+    requires fits { ⌜ Addable (S·View .means (now store)) (S·Store .room (now store)) bus post ⌝ }
+    requires even { ⌜ EvenSides (S·View .means (now store)) (R·Rule .limits (now rule)) ⌝ }
+    ensures room { λ _. ⌜ S·Store .room (now (store .exit)) + 1 ≡ S·Store .room (now (store .entry)) ⌝ }
+    ensures added { λ _. ⌜ AddedEven (S·View .means (now (store .entry))) (S·View .means (now (store .exit))) (R·Rule .limits (now (rule .entry))) bus post ⌝ }
+{
+    let carried = count_on(store, bus, Side::Bus);
+    if u32::from(carried) < rule.bus_limit(bus) {
+        let _ = store.add(bus, post, Side::Bus);
+    } else {
+        add_to_post(store, rule, bus, post, marks);
+    }
+}

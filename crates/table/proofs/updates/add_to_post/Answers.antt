@@ -24,9 +24,9 @@ returns g c =
     let m = g .S·View .means (c .args .store .now) in
     let after-add = put-in .0 .meaning in
     let all = subst (λ (k : Meaning). AllLeading k (g .S·View .means (c .args .store .now) .buses + c .args .post) (c .leading-queue .result)) after-add
-        (subst (λ (b : ℕ). AllLeading (g .S·View .means (c .add .last .self)) (b + c .args .post) (c .leading-queue .result)) (c .buses-buses .ensures) (c .leading-queue .ensures)) in
+    (subst (λ (b : ℕ). AllLeading (g .S·View .means (c .add .last .self)) (b + c .args .post) (c .leading-queue .result)) (c .buses-buses .ensures) (c .leading-queue .ensures)) in
     let chosen = subst (λ (b : ℕ). Chosen (under (c .loads-loads .result) (g .R·Rule .limits (c .args .rule .now)) b (g .S·View .means (c .args .store .now) .posts)) (c .leading-queue .result) (c .lowest-place .result)) (c .buses-buses .ensures)
-        (subst (λ (p : ℕ). Chosen (under (c .loads-loads .result) (g .R·Rule .limits (c .args .rule .now)) (c .buses-buses .result) p) (c .leading-queue .result) (c .lowest-place .result)) (c .posts-posts .ensures) (c .lowest-place .ensures)) in
+    (subst (λ (p : ℕ). Chosen (under (c .loads-loads .result) (g .R·Rule .limits (c .args .rule .now)) (c .buses-buses .result) p) (c .leading-queue .result) (c .lowest-place .result)) (c .posts-posts .ensures) (c .lowest-place .ensures)) in
     let turned = subst (λ (k : Meaning). TurnedBack (c .leading-queue .result) (c .lowest-place .result) k (g .S·View .means (c .turn-back .last .store))) after-add (c .turn-back .ensures .turned) in
     record {
       room = ap (λ (k : ℕ). k + 1) (c .turn-back .ensures .room) ∙ put-in .1;
