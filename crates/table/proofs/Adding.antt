@@ -72,6 +72,13 @@ all-leading m bounded x q r s marks marks' marks'' a lx el st so = record {
     leading : (n : ℕ) → Walk (leads-of m) n x → n < size m → (i : ℕ) × (i < s .len) × (node s i ≡ n)
     leading n w l = so .state .found-marked n l (is-marked n w l)
 
+-- the side of a standing pair, turned or not
+pub side-turned : (u : Bool) (r : Standing) → stands r ≡ true → by-post (cond u (other r) r) ≡ cond u (not (by-post r)) (by-post r)
+side-turned true Absent e = absurd (both-ways false refl e)
+side-turned true Bus e = refl
+side-turned true Post e = refl
+side-turned false r e = refl
+
 -- one pair put in: its yard and its sides
 module _ (m : Meaning) (b p : ℕ) (s : Standing) where
   or-true : (x : Bool) → true ≡ (x || true)
@@ -152,12 +159,6 @@ module _ (m : Meaning) (L : Limits) (rising : Rising L) (bounded : Bounded m) (e
     turned-leads =
         along-leads (put b p Post m) (node q place) (t .trail)
         ∙ ap₂ (pointing (m .buses)) (ap (λ Y. Y .paired) (put-yard m b p Post refl)) (ap (flipped (m .buses) (node q place) (t .trail)) (put-sides m b p Post))
-
-    side-turned : (u : Bool) (r : Standing) → stands r ≡ true → by-post (cond u (other r) r) ≡ cond u (not (by-post r)) (by-post r)
-    side-turned true Absent e = absurd (both-ways false refl e)
-    side-turned true Bus e = refl
-    side-turned true Post e = refl
-    side-turned false r e = refl
 
     pub added-to-post : AddedEven m n L b p
     added-to-post =

@@ -178,6 +178,14 @@ module _ (m : Meaning) (L : Limits) (loads : List ℕ) (bounded : Bounded m) (ri
         ∙ ap₂ (λ u v. leb (m .buses) n && ltb u v) (sym l) (sym k)
   ]
 
+-- a post's limit rises with the level
+pub climbs-to : (L : Limits) → Rising L → (a c p : ℕ) → a ≤ c → c < 256 → L .post a p ≤ L .post c p
+climbs-to L r a zero p h w = let e : a ≡ 0 = omega arith in let f = ap (λ z. L .post z p) e in omega arith
+climbs-to L r a (suc c) p h w = elim (cases-eq a (suc c)) [
+  | inl e ↦ let f = ap (λ z. L .post z p) e in omega arith
+  | inr d ↦ omega (arith, climbs-to L r a c p (omega arith) (omega arith), r c p (omega arith))
+]
+
 pub under-upward : (loads : List ℕ) (L : Limits) (buses posts : ℕ) → Rising L → Upward (under loads L buses posts)
 under-upward loads L buses posts rising a c n h lc e =
     let p = and-parts (leb buses n) (ltb (n - buses) posts && (ltb (n - buses) 256 && ltb (getD loads (n - buses) 0) (L .post a (n - buses)))) e in
@@ -188,13 +196,6 @@ under-upward loads L buses posts rising a c n h lc e =
     and-from (leb buses n) (ltb (n - buses) posts && (ltb (n - buses) 256 && ltb (getD loads (n - buses) 0) (L .post c (n - buses)))) (p .0)
     (and-from (ltb (n - buses) posts) (ltb (n - buses) 256 && ltb (getD loads (n - buses) 0) (L .post c (n - buses))) (q .0)
     (and-from (ltb (n - buses) 256) (ltb (getD loads (n - buses) 0) (L .post c (n - buses))) (r .0) (lt-ltb (getD loads (n - buses) 0) (L .post c (n - buses)) (omega arith))))
-  where
-    climbs-to : (L : Limits) → Rising L → (a c p : ℕ) → a ≤ c → c < 256 → L .post a p ≤ L .post c p
-    climbs-to L r a zero p h w = let e : a ≡ 0 = omega arith in let f = ap (λ z. L .post z p) e in omega arith
-    climbs-to L r a (suc c) p h w = elim (cases-eq a (suc c)) [
-      | inl e ↦ let f = ap (λ z. L .post z p) e in omega arith
-      | inr d ↦ omega (arith, climbs-to L r a c p (omega arith) (omega arith), r c p (omega arith))
-    ]
 
 -- what the search down the levels says of evenness
 module _ (m : Meaning) (L : Limits) (loads : List ℕ) (bounded : Bounded m) (loads-right : LoadsOf m loads) (right : BusesRight m L) (q : Queue) (marks : List ℕ) where

@@ -7,4 +7,5 @@ pub mod EvenSides
 pub mod Ranking
 pub mod Adding
 pub mod Choosing
+pub mod Dropping
 pub mod Descending

@@ -1,18 +1,20 @@
 -- One pair more or less, and one chain turned after it.
-use Prim.Native.Nat.{ℕ, _<_}
+use Prim.Native.Nat.{ℕ, _<_, _≤_}
 use mathlib.Core.Path.{_≡_}
 use mathlib.Core.Logic.{_⊎_}
 use mathlib.Core.Bool.{Bool, true}
-use Rattle.blocks.specs.Limits.{Limits}
-use Rattle.blocks.specs.Yards.{add}
+use mathlib.Core.List.{List}
+use Rattle.blocks.specs.Limits.{Limits, limit-at}
+use Rattle.blocks.specs.Yards.{add, drop}
 use Rattle.blocks.specs.Networks.{Walk}
+use Rattle.blocks.specs.Chains.{Chain, end}
 use Rattle.blocks.specs.Sides.{OneChainTurned}
 use Rattle.stores.specs.Meaning.{Meaning}
 use Rattle.stores.specs.declared.pairs.Standing.the-variants.{Absent}
 use Rattle.table.specs.declared.queues.Queue.{Queue}
-use Rattle.table.specs.Yards.{yard-of, sides-of, leads-of}
+use Rattle.table.specs.Yards.{yard-of, sides-of, leads-of, along}
 use Rattle.table.specs.Searches.{node, from, OverPairs}
-use Rattle.table.specs.Levels.{size}
+use Rattle.table.specs.Levels.{size, load-of}
 use Rattle.table.specs.Evening.{EvenSides}
 
 -- the queue holds all that leads to the node x, which is its only start
@@ -42,3 +44,19 @@ pub record Addable (m : Meaning) (room b p : ℕ) : Type 0 where
   pub post : p < m .posts
   pub absent : m .standing b p ≡ Absent
   pub place : 0 < room
+
+-- the pair has been dropped, the sides are even, and of the pairs that stay exactly those of one chain have turned
+pub record DroppedEven (m n : Meaning) (L : Limits) (b p : ℕ) : Type 0 where
+  pub yard : yard-of n ≡ drop b p (yard-of m)
+  pub even : EvenSides n L
+  pub chain : OneChainTurned (yard-of m) (drop b p (yard-of m) .paired) (sides-of m) (sides-of n)
+
+-- one chain from the node y has turned, to a post that is over its limit wherever any post that y leads to is
+pub record TurnedFrom (m n : Meaning) (L : Limits) (y : ℕ) : Type 0 where
+  pub rest : List ℕ
+  pub chain : Chain (leads-of m) y rest
+  pub changes : n ≡ along y rest m
+  pub post : m .buses ≤ end y rest
+  pub inside : end y rest < size m
+  pub wherever : (k a : ℕ) → m .buses ≤ k → k < size m → a < 256 → Walk (leads-of m) y k → limit-at (m .buses) L a k < load-of m k
+      → limit-at (m .buses) L a (end y rest) < load-of m (end y rest)
