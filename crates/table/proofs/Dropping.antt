@@ -9,6 +9,7 @@ use Rattle.std.proofs.shelf.Tests.{cases-lt, both-ways, eq-eqb, eqb-true, ltb-t
 use lib.Dec.{eqb}
 use Rattle.std.proofs.shelf.Ways.{tells}
 use Rattle.std.specs.declared.option.Option.the-variants.{Some, None}
+use Rattle.std.specs.declared.result.Result.{Result}
 use Rattle.blocks.specs.Limits.{Limits, Rising, limit-at}
 use Rattle.blocks.specs.Sets.{Set}
 use Rattle.blocks.specs.Yards.{Yard, drop}
@@ -21,6 +22,8 @@ use Rattle.blocks.proofs.Levels.{at-bus, at-post}
 use Rattle.stores.specs.Meaning.{Meaning, Bounded, put, other, stands, by-post}
 use Rattle.stores.specs.declared.pairs.Standing.{Standing}
 use Rattle.stores.specs.declared.pairs.Standing.the-variants.{Absent, Bus, Post}
+use Rattle.stores.specs.declared.faults.StoreFault.{StoreFault}
+use Rattle.stores.specs.Promises.{Turned}
 use Rattle.table.specs.declared.queues.Queue.{Queue}
 use Rattle.table.specs.Yards.{yard-of, sides-of, leads-of, along}
 use Rattle.table.specs.Searches.{node, from, TurnedBack}
@@ -29,6 +32,7 @@ use Rattle.table.specs.Buses.{pairs-of}
 use Rattle.table.specs.Evening.{EvenSides}
 use Rattle.table.specs.Updates.{DroppedEven, TurnedFrom}
 use Rattle.table.proofs.Descending.{sized}
+use Rattle.table.proofs.Trails.{step-turned}
 use Rattle.table.proofs.EvenSides.{along-yard, along-leads, against-pairs, trail-chain, bus-degree, climbs-to, right-within, even-right}
 use Rattle.table.proofs.Adding.{put-sides, side-turned}
 
@@ -144,6 +148,27 @@ module _ (m : Meaning) (L : Limits) (rising : Rising L) (bounded : Bounded m) (e
     inside = lp;
     wherever = λ k a bk lk la w o. absurd (clear-walk y ly a (d .misses refl .0 a (omega arith) la) k lk w o);
   }
+
+  -- so any pair of a bus that its post carries may go over to the bus
+  pub turned-one : (b : ℕ) → b < m .buses → (q : Queue) (marks : List ℕ) → Descended m L (λ _ n. eqb n b) 0 q marks None → (p : ℕ) → m .standing b p ≡ Post
+      → (n : Meaning) (room room' : ℕ) (r : Result (Unit {0}) StoreFault) → Turned m n room room' b p r → (room' ≡ room) × TurnedFrom m n L b
+  turned-one b lb q marks d p e n room room' r t =
+      let done = t .turns lb lp there in (
+        done .1,
+        turned-free b (omega arith) q marks d n ((m .buses + p) ∷ []) (link, (apart, tt), tt) (done .0 .meaning ∙ step-turned m b (m .buses + p) [] b p (inl (refl, refl)) lb (apart, tt)) (omega arith) (omega (arith, lp)),
+      )
+    where
+      there : m .standing b p ≡ Absent → ⊥
+      there h = both-ways (stands (m .standing b p)) (ap stands h) (ap stands e)
+
+      lp : p < m .posts
+      lp = elim (cases-lt p (m .posts)) [ inl h ↦ h | inr h ↦ absurd (there (bounded .no-post b p h)) ]
+
+      apart : b ≡ m .buses + p → ⊥
+      apart h = omega arith
+
+      link : leads-of m b (m .buses + p) ≡ true
+      link = one-pair.post-link (yard-of m) L (sides-of m) rising (sized m bounded) even b p lb lp (ap stands e) false (ap by-post e)
 
   module _ (b p : ℕ) (lb : b < m .buses) (lp : p < m .posts) (held : stands (m .standing b p) ≡ true) where
     -- the end y carried the pair, and one chain from it has turned

@@ -1,5 +1,7 @@
 ghost use mathlib.Core.Path.{_≡_};
 ghost use Prim.Native.Nat.{_<_, _≤_};
+ghost use Rattle.stores.specs.declared.pairs.Side.the-variants.{Post as post-side};
+ghost use Rattle.stores.specs.declared.pairs.Standing.the-variants.{Post};
 ghost use Rattle.table.specs.Buses.{on-side, is-on, SomeTurned, BusSettled, BusesSettled};
 use stores::pairs::Side;
 use stores::pairs::Standing;
@@ -30,6 +32,19 @@ pub(crate) fn count_on<S: View>(view: &S, bus: u16, side: Side) -> u16
         }
     }
     count
+}
+
+// The first post that carries a pair of the bus.
+pub(crate) fn first_carrying<S: View>(view: &S, bus: u16) -> u16
+    requires { ⌜ 0 < on-side (S·View .means (now view)) post-side bus ⌝ }
+    ensures { λ r. ⌜ S·View .means (now (view .entry)) .standing bus r ≡ Post ⌝ }
+{
+    for post in 0..view.posts() {
+        if carries(view, bus, post, Side::Post) {
+            return post;
+        }
+    }
+    0
 }
 
 // Turns the first pairs of a bus that this side carries, so many of them.

@@ -1,5 +1,6 @@
 // The table over any store and any rule.
 mod buses;
+mod drops;
 mod evening;
 pub mod faults;
 pub mod guards;

@@ -45,9 +45,9 @@ impl LevelGoal for NoNode as NoNodeGoal {
 
 // Looks for one node.
 #[derive(Drop)]
-struct OneNode(u16);
+pub(crate) struct OneNode(pub(crate) u16);
 
-impl LevelGoal for OneNode as OneNodeGoal {
+pub(crate) impl LevelGoal for OneNode as OneNodeGoal {
     ghost sought = { λ one _ n. eqb n (one .0) };
 
     fn sought(&self, _level: u16, node: u16) -> bool {
