@@ -21,6 +21,7 @@ use Rattle.blocks.proofs.OnePair as one-pair
 use Rattle.blocks.proofs.Levels.{at-bus, at-post}
 use Rattle.stores.specs.Meaning.{Meaning, Bounded, put, other, stands, by-post}
 use Rattle.stores.specs.declared.pairs.Standing.{Standing}
+use Rattle.stores.specs.declared.pairs.Side.the-variants.{Bus as bus-side, Post as post-side}
 use Rattle.stores.specs.declared.pairs.Standing.the-variants.{Absent, Bus, Post}
 use Rattle.stores.specs.declared.faults.StoreFault.{StoreFault}
 use Rattle.stores.specs.Promises.{Turned}
@@ -28,12 +29,13 @@ use Rattle.table.specs.declared.queues.Queue.{Queue}
 use Rattle.table.specs.Yards.{yard-of, sides-of, leads-of, along}
 use Rattle.table.specs.Searches.{node, from, TurnedBack}
 use Rattle.table.specs.Levels.{size, load-of, Clear, Descended}
-use Rattle.table.specs.Buses.{pairs-of}
+use Rattle.table.specs.Buses.{pairs-of, on-side, SamePairs}
 use Rattle.table.specs.Evening.{EvenSides}
-use Rattle.table.specs.Updates.{DroppedEven, TurnedFrom}
+use Rattle.table.specs.Updates.{Droppable, DroppedEven, TurnedFrom, WayMade}
 use Rattle.table.proofs.Descending.{sized}
 use Rattle.table.proofs.Trails.{step-turned}
-use Rattle.table.proofs.EvenSides.{along-yard, along-leads, against-pairs, trail-chain, bus-degree, climbs-to, right-within, even-right}
+use Rattle.table.proofs.SettlingBuses.{both-sides}
+use Rattle.table.proofs.EvenSides.{along-paired, along-yard, along-leads, against-pairs, trail-chain, bus-degree, climbs-to, right-within, even-right}
 use Rattle.table.proofs.Adding.{put-sides, side-turned}
 
 -- a chain from y uses no lead to y
@@ -232,3 +234,40 @@ module _ (m : Meaning) (L : Limits) (rising : Rising L) (bounded : Bounded m) (e
       chain = subst (OneChainTurned (yard-of m) (drop b p (yard-of m) .paired) (sides-of m)) (sym (put-sides m b p Absent))
           (one-pair.drop-light-chain (yard-of m) L (sides-of m) rising (sized m bounded) even b p lb lp held false);
     }
+
+on-post : (s : Standing) → by-post s ≡ true → s ≡ Post
+on-post Absent e = absurd (both-ways false refl e)
+on-post Bus e = absurd (both-ways false refl e)
+on-post Post e = refl
+
+on-bus : (s : Standing) → stands s ≡ true → by-post s ≡ false → s ≡ Bus
+on-bus Absent h e = absurd (both-ways false refl h)
+on-bus Bus h e = refl
+on-bus Post h e = absurd (both-ways true e refl)
+
+only-sides : (m n : Meaning) (L : Limits) (y : ℕ) → TurnedFrom m n L y → SamePairs m n
+only-sides m n L y t = subst (SamePairs m) (sym (t .changes)) (record { buses = refl; posts = refl; same = λ c p. along-paired m y (t .rest) c p })
+
+-- the ways in which a pair may go, by what the code knows
+module _ (m : Meaning) (L : Limits) (rising : Rising L) (bounded : Bounded m) (even : EvenSides m L) (b p : ℕ) (fits : Droppable m b p) where
+  pub way-post : by-post (m .standing b p) ≡ true → (n : Meaning) → TurnedFrom m n L (m .buses + p) → WayMade m n L b p
+  way-post e n t = record {
+    pairs = only-sides m n L (m .buses + p) t;
+    dropped = dropped-from-post m L rising bounded even b p (fits .bus) (fits .post) (fits .held) (on-post (m .standing b p) e) n t;
+  }
+
+  -- a bus with more pairs than its limit has one that its post carries
+  pub bus-leads : L .bus b < on-side m bus-side b + on-side m post-side b → 0 < on-side m post-side b
+  bus-leads heavy = omega (arith, even-right m L even b (fits .bus), both-sides m b)
+
+  pub way-bus : by-post (m .standing b p) ≡ false → L .bus b < on-side m bus-side b + on-side m post-side b → (n : Meaning) → TurnedFrom m n L b → WayMade m n L b p
+  way-bus e heavy n t = record {
+    pairs = only-sides m n L b t;
+    dropped = dropped-from-bus m L rising bounded even b p (fits .bus) (fits .post) (fits .held) (on-bus (m .standing b p) (fits .held) e) (omega (arith, both-sides m b)) n t;
+  }
+
+  pub way-light : by-post (m .standing b p) ≡ false → on-side m bus-side b + on-side m post-side b ≤ L .bus b → WayMade m m L b p
+  way-light e light = record {
+    pairs = record { buses = refl; posts = refl; same = λ c q. refl };
+    dropped = dropped-light m L rising bounded even b p (fits .bus) (fits .post) (fits .held) (on-bus (m .standing b p) (fits .held) e) (omega (arith, both-sides m b));
+  }

@@ -9,12 +9,13 @@ use Rattle.blocks.specs.Yards.{add, drop}
 use Rattle.blocks.specs.Networks.{Walk}
 use Rattle.blocks.specs.Chains.{Chain, end}
 use Rattle.blocks.specs.Sides.{OneChainTurned}
-use Rattle.stores.specs.Meaning.{Meaning}
+use Rattle.stores.specs.Meaning.{Meaning, put, stands}
 use Rattle.stores.specs.declared.pairs.Standing.the-variants.{Absent}
 use Rattle.table.specs.declared.queues.Queue.{Queue}
 use Rattle.table.specs.Yards.{yard-of, sides-of, leads-of, along}
 use Rattle.table.specs.Searches.{node, from, OverPairs}
 use Rattle.table.specs.Levels.{size, load-of}
+use Rattle.table.specs.Buses.{SamePairs}
 use Rattle.table.specs.Evening.{EvenSides}
 
 -- the queue holds all that leads to the node x, which is its only start
@@ -60,3 +61,14 @@ pub record TurnedFrom (m n : Meaning) (L : Limits) (y : ℕ) : Type 0 where
   pub inside : end y rest < size m
   pub wherever : (k a : ℕ) → m .buses ≤ k → k < size m → a < 256 → Walk (leads-of m) y k → limit-at (m .buses) L a k < load-of m k
       → limit-at (m .buses) L a (end y rest) < load-of m (end y rest)
+
+-- no refusal stands against dropping the pair
+pub record Droppable (m : Meaning) (b p : ℕ) : Type 0 where
+  pub bus : b < m .buses
+  pub post : p < m .posts
+  pub held : stands (m .standing b p) ≡ true
+
+-- only sides have changed, and the sides are even once the pair is gone
+pub record WayMade (m n : Meaning) (L : Limits) (b p : ℕ) : Type 0 where
+  pub pairs : SamePairs m n
+  pub dropped : DroppedEven m (put b p Absent n) L b p

@@ -10,7 +10,7 @@ use stores::views::Store;
 use stores::views::View;
 
 // Does this side carry the pair?
-fn carries<S: View>(view: &S, bus: u16, post: u16, side: Side) -> bool
+pub(crate) fn carries<S: View>(view: &S, bus: u16, post: u16, side: Side) -> bool
     ensures { λ r. ⌜ r ≡ is-on side (S·View .means (now (view .entry)) .standing bus post) ⌝ }
 {
     match (side, view.stands(bus, post)) {
