@@ -13,6 +13,7 @@ ghost use Rattle.table.specs.Reports.{BlockMarked, count-from, FirstMember};
 use crate::levels::LevelGoal;
 use crate::levels::descend;
 use crate::levels::loads;
+use crate::networks::Goal;
 use crate::queues::Queue;
 use stores::rules::Rule;
 use stores::views::View;
@@ -33,7 +34,15 @@ pub(crate) fn shortfall<S: View, R: Rule>(view: &S, rule: &R, level: u16) -> u32
 
 // Looks for no node.
 #[derive(Drop)]
-struct NoNode;
+pub(crate) struct NoNode;
+
+pub(crate) impl Goal for NoNode as NoNodeWanted {
+    ghost wanted = { λ _ _. false };
+
+    fn wanted(&self, _node: u16) -> bool {
+        false
+    }
+}
 
 impl LevelGoal for NoNode as NoNodeGoal {
     ghost sought = { λ _ _ _. false };

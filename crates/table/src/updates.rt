@@ -1,4 +1,3 @@
-ghost use mathlib.Core.Bool.{false};
 ghost use mathlib.Core.Path.{_≡_};
 ghost use Prim.Native.Nat.{_+_, _<_, _≤_};
 ghost use lib.ListN.{length};
@@ -14,8 +13,9 @@ use crate::levels::UnderGoal;
 use crate::levels::loads;
 use crate::networks::Against;
 use crate::networks::AgainstNetwork;
-use crate::networks::Goal;
 use crate::queues::Queue;
+use crate::reports::NoNode;
+use crate::reports::NoNodeWanted;
 use crate::searches::search;
 use crate::searches::start;
 use crate::turning::turn_back;
@@ -43,18 +43,6 @@ fn lowest<G: LevelGoal>(goal: &G, queue: &Queue) -> usize
     }
 }
 
-// Wants no node.
-#[derive(Drop)]
-struct Nothing;
-
-impl Goal for Nothing as NothingGoal {
-    ghost wanted = { λ _ _. false };
-
-    fn wanted(&self, _node: u16) -> bool {
-        false
-    }
-}
-
 // All that leads to a node, over any working bytes.
 fn leading<S: View>(view: &S, node: u16, marks: &mut [u8]) -> Queue
     requires long { ⌜ size (S·View .means (now view)) ≤ length (now marks) ⌝ }
@@ -64,7 +52,7 @@ fn leading<S: View>(view: &S, node: u16, marks: &mut [u8]) -> Queue
     marks.fill(0);
     let mut queue = Queue::new();
     start(&Against(view), &mut queue, marks, node);
-    let _ = search(&Against(view), &Nothing, &mut queue, marks);
+    let _ = search(&Against(view), &NoNode, &mut queue, marks);
     queue
 }
 
