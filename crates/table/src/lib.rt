@@ -1,4 +1,5 @@
 // The table over any store and any rule.
+mod additions;
 mod buses;
 mod drops;
 mod evening;
@@ -10,4 +11,3 @@ pub mod queues;
 mod reports;
 pub mod searches;
 mod turning;
-mod updates;

@@ -4,7 +4,7 @@ use native.Mathlib.Omega.{arith}
 use Rattle.stores.specs.Meaning.{Meaning}
 use Rattle.table.specs.Updates.{AddedEven}
 use Rattle.table.proofs.Adding.{added-to-bus}
-use Rattle.table.proofs.updates.add_even.Needs as need
+use Rattle.table.proofs.additions.add_even.Needs as need
 
 pub returns-then-from-bus-limit : need.returns-then-from-bus-limit
 returns-then-from-bus-limit g c =

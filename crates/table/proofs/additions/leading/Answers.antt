@@ -4,7 +4,7 @@ use borrow.Author.Needs.{needs}
 use lib.ListN.{length, replicate}
 use Rattle.table.proofs.Searching.{searched-none}
 use Rattle.table.proofs.Adding.{all-leading}
-use Rattle.table.proofs.updates.leading.Needs as need
+use Rattle.table.proofs.additions.leading.Needs as need
 
 pub start-requires : need.start-requires
 start-requires g c κs =

@@ -8,7 +8,7 @@ use Rattle.table.specs.Levels.{under}
 use Rattle.table.specs.Updates.{AllLeading, Chosen}
 use Rattle.table.proofs.EvenSides.{under-upward}
 use Rattle.table.proofs.Adding.{added-to-post}
-use Rattle.table.proofs.updates.add_to_post.Needs as need
+use Rattle.table.proofs.additions.add_to_post.Needs as need
 
 pub lowest-place-requires : need.lowest-place-requires
 lowest-place-requires g c κs = record {
