@@ -1,5 +1,7 @@
 // The subject: yards, limits, blocks and ranks. The definitions are in specs/; each function here carries a theorem about them on its
 // contract, so that the check asks for its proof. None of them computes anything.
+#![tactic(auto)]
+
 ghost use Rattle.std.specs.Prelude.{ℕ, ◌+◌, pos};
 ghost use Rattle.std.specs.List.{AllByRecursion as All};
 ghost use Rattle.blocks.specs.Sets.{nobody};

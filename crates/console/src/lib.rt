@@ -1,4 +1,6 @@
 // The console's lines: commands read, answers printed, input taken apart into lines.
+#![tactic(auto)]
+
 pub mod answers;
 pub mod commands;
 pub mod consoles;

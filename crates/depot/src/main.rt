@@ -1,4 +1,6 @@
 // Reads lines from standard input, and prints the answer to each.
+#![tactic(auto)]
+
 use console::consoles::Console;
 use console::input::{LIMIT, line_at, shown};
 use std::io;

@@ -1,4 +1,6 @@
 // A pair store over bytes: two bits a pair, a row a bus.
+#![tactic(auto)]
+
 ghost use Rattle.std.specs.Prelude.{◌≡◌, ℕ, ◌+◌, ◌*◌, ◌/◌, ◌%◌, ◌<◌, ◌≤◌, List, length, slice_set};
 ghost use Rattle.blocks.specs.Sums.{sum, bit};
 ghost use Rattle.stores.specs.Meaning.{stands, by_post, carried, other, standing_count};

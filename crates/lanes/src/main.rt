@@ -1,4 +1,6 @@
 // Which bays of a depot's one-way lane can still be driven to: the search on a network that is no yard.
+#![tactic(auto)]
+
 ghost use Rattle.std.specs.Prelude.{◌+◌, not, ◌&&◌, ◌==◌, nat_lt};
 
 use std::io;

@@ -1,4 +1,6 @@
 // A pair store of records of its own, up to 1,024 of them.
+#![tactic(auto)]
+
 ghost use Rattle.std.specs.Prelude.{◌≡◌, ◌+◌, ◌-◌, ◌<◌, ◌≤◌, length, take};
 ghost use Rattle.std.specs.List.{insert, remove};
 ghost use Rattle.stores.specs.Meaning.{empty, standing_count};

@@ -1,4 +1,6 @@
 // Limit rules: one limit for all, or rates read from a sheet.
+#![tactic(auto)]
+
 ghost use Rattle.std.specs.Prelude.{◌≡◌, ℕ, ◌≤◌, List, length};
 ghost use Rattle.blocks.specs.Limits.{Limits, Lawful};
 ghost use Rattle.rules.specs.Rated.{rated, ByteAt, WordAt, SheetChecked};

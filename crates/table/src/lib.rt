@@ -1,4 +1,6 @@
 // The table over any store and any rule.
+#![tactic(auto)]
+
 mod additions;
 mod buses;
 pub mod calls;

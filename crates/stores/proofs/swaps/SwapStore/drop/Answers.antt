@@ -11,5 +11,5 @@ returns g c =
     let m' : Meaning = g.S.View.means c.drop.new.self in
     let room : ℕ = g.S.Store.room c.args.self.now.0 in
     let room' : ℕ = g.S.Store.room c.drop.new.self in
-    subst (λ r. Dropped (exchanged m) (exchanged m') room room' c.args.bus c.args.post r) (sym c.face-answer.ensures)
+    subst (λ r. Dropped (exchanged m) (exchanged m') room room' c.args.bus c.args.post r) (sym c.face_answer.ensures)
     (dropped_round m m' room room' c.args.bus c.args.post c.drop.result (omega (arith, c.posts.ensures, c.if-bus-posts.false)) c.drop.ensures)

@@ -11,5 +11,5 @@ returns g c =
     let m' : Meaning = g.S.View.means c.turn.new.self in
     let room : ℕ = g.S.Store.room c.args.self.now.0 in
     let room' : ℕ = g.S.Store.room c.turn.new.self in
-    subst (λ r. Turned (exchanged m) (exchanged m') room room' c.args.bus c.args.post r) (sym c.face-answer.ensures)
+    subst (λ r. Turned (exchanged m) (exchanged m') room room' c.args.bus c.args.post r) (sym c.face_answer.ensures)
     (turned_round m m' room room' c.args.bus c.args.post c.turn.result (omega (arith, c.posts.ensures, c.if-bus-posts.false)) c.turn.ensures)
