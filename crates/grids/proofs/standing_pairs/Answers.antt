@@ -10,24 +10,24 @@ use Rattle.grids.proofs.standing_pairs.Goals as goal
 pub loop-bus-init : goal.loop-bus-init
 loop-bus-init c = sym (sum_none (λ b. row_pairs (rows_mean c.args.bytes.now c.args.buses c.args.posts) b))
 
-pub row-of-requires : goal.row-of-requires
-row-of-requires c = row_end c.loop-bus.bus c.args.buses (row c.args.posts) (length c.args.bytes.now) c.loop-bus-test.true c.requires
+pub row_of-requires : goal.row_of-requires
+row_of-requires c = row_end c.loop-bus.bus c.args.buses (row c.args.posts) (length c.args.bytes.now) c.loop-bus-test.true c.requires
 
-pub standing-in-count-requires : goal.standing-in-count-requires
-standing-in-count-requires c =
+pub standing_in-count-requires : goal.standing_in-count-requires
+standing_in-count-requires c =
     let ends = row_end c.loop-bus.bus c.args.buses (row c.args.posts) (length c.args.bytes.now) c.loop-bus-test.true c.requires in
-    omega (arith, ap length c.row-of.ensures, row_length c.args.bytes.now c.args.posts c.loop-bus.bus ends)
+    omega (arith, ap length c.row_of.ensures, row_length c.args.bytes.now c.args.posts c.loop-bus.bus ends)
 
 -- the count of this turn's row
-counted : (c : goal.After-standing-in-count)
-    → c.standing-in-count.result ≡ row_pairs (rows_mean c.args.bytes.now c.args.buses c.args.posts) c.loop-bus.bus
+counted : (c : goal.After-standing_in-count)
+    → c.standing_in-count.result ≡ row_pairs (rows_mean c.args.bytes.now c.args.buses c.args.posts) c.loop-bus.bus
 counted c =
-    c.standing-in-count.ensures
-    ∙ (ap (λ ys. sum c.args.posts (λ p. bit (stands (cell_means ys (2 * p))))) c.row-of.ensures
+    c.standing_in-count.ensures
+    ∙ (ap (λ ys. sum c.args.posts (λ p. bit (stands (cell_means ys (2 * p))))) c.row_of.ensures
     ∙ row_count c.args.bytes.now c.args.buses c.args.posts c.loop-bus.bus c.loop-bus-test.true)
 
-pub overflow-add-count : goal.overflow-add-count
-overflow-add-count c =
+pub overflow_add-count : goal.overflow_add-count
+overflow_add-count c =
     let m = rows_mean c.args.bytes.now c.args.buses c.args.posts in
     omega (
       arith,

@@ -3,13 +3,13 @@ use Rattle.std.specs.Int.{IsInRange}
 use Rattle.console.proofs.Numerals.{small_value, value_next, all_weighed}
 use Rattle.console.proofs.numbers.value.Goals as goal
 
-pub overflow-mul-value : goal.overflow-mul-value
-overflow-mul-value c =
+pub overflow_mul-value : goal.overflow_mul-value
+overflow_mul-value c =
     let small : c.loop-digit.value < 10000 = omega (arith, small_value c.args.digits.now c.loop-digit.digit-index c.loop-digit.invariant.0 (omega arith)) in
     search rules
 
-pub overflow-add-value : goal.overflow-add-value
-overflow-add-value c =
+pub overflow_add-value : goal.overflow_add-value
+overflow_add-value c =
     let small : c.loop-digit.value < 10000 = omega (arith, small_value c.args.digits.now c.loop-digit.digit-index c.loop-digit.invariant.0 (omega arith)) in
     search rules
 

@@ -3,5 +3,5 @@ use Rattle.grids.specs.Cells.{rows_mean}
 use Rattle.grids.proofs.RoomSums.{pairs_few}
 use Rattle.grids.proofs.GridStore.room.Goals as goal
 
-pub overflow-sub-result : goal.overflow-sub-result
-overflow-sub-result g c = omega (arith, c.standing-pairs.ensures, pairs_few (rows_mean c.bytes.result.now c.shape-buses.result.0 c.shape-buses.result.1))
+pub overflow_sub-result : goal.overflow_sub-result
+overflow_sub-result g c = omega (arith, c.standing_pairs.ensures, pairs_few (rows_mean c.bytes.result.now c.shape-buses.result.0 c.shape-buses.result.1))

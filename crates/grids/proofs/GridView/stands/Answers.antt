@@ -15,15 +15,15 @@ in_part xs part B P b p hb hp fits e =
 read_part : (xs ys part : List ℕ) (P b p : ℕ) (s : Standing) → s ≡ cell_means part (2 * p) → part ≡ row_part ys P b → ys ≡ xs → s ≡ cell_means (row_part xs P b) (2 * p)
 read_part xs ys part P b p s e f h = e ∙ (ap (λ l. cell_means l (2 * p)) f ∙ ap (λ l. cell_means (row_part l P b) (2 * p)) h)
 
-pub row-of-requires : goal.row-of-requires
-row-of-requires g c =
+pub row_of-requires : goal.row_of-requires
+row_of-requires g c =
     row_end c.args.bus c.shape-buses.result.0 (row c.shape-buses.result.1) (length c.bytes.result.now)
     c.if-bus-buses.false (omega (arith, c.shape-buses.ensures.fits, ap length c.bytes.ensures))
 
-pub read-cell-requires : goal.read-cell-requires
-read-cell-requires g c =
-    in_part c.bytes.result.now c.row-of.result.now c.shape-buses.result.0 c.shape-buses.result.1 c.args.bus c.args.post
-    c.if-bus-buses.false c.if-post-posts.false (omega (arith, c.shape-buses.ensures.fits, ap length c.bytes.ensures)) c.row-of.ensures
+pub read_cell-requires : goal.read_cell-requires
+read_cell-requires g c =
+    in_part c.bytes.result.now c.row_of.result.now c.shape-buses.result.0 c.shape-buses.result.1 c.args.bus c.args.post
+    c.if-bus-buses.false c.if-post-posts.false (omega (arith, c.shape-buses.ensures.fits, ap length c.bytes.ensures)) c.row_of.ensures
 
 pub returns : goal.returns
 returns g c =
@@ -32,7 +32,7 @@ returns g c =
     let n : ℕ = c.shape-buses.result.1 in
     let b : ℕ = c.args.bus in
     let p : ℕ = c.args.post in
-    let cell = read_part xs c.bytes.result.now c.row-of.result.now n b p c.read-cell.result c.read-cell.ensures c.row-of.ensures c.bytes.ensures in
-    subst (λ k. Told k b p (Ok c.read-cell.result))
+    let cell = read_part xs c.bytes.result.now c.row_of.result.now n b p c.read_cell.result c.read_cell.ensures c.row_of.ensures c.bytes.ensures in
+    subst (λ k. Told k b p (Ok c.read_cell.result))
     (means_by xs c.args.self.now.buses c.args.self.now.posts m n c.shape-buses.ensures.buses c.shape-buses.ensures.posts)
-    (told_rows xs m n b p c.read-cell.result c.if-bus-buses.false c.if-post-posts.false (cell ∙ row_cell xs n b p c.if-post-posts.false))
+    (told_rows xs m n b p c.read_cell.result c.if-bus-buses.false c.if-post-posts.false (cell ∙ row_cell xs n b p c.if-post-posts.false))

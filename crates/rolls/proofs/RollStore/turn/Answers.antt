@@ -4,27 +4,27 @@ use Rattle.rolls.specs.Replies.{turn_keeps, turn_absent, turn_turns, taken_flip,
 use Rattle.rolls.specs.Shifts.{within_taken}
 use Rattle.rolls.proofs.RollStore.turn.Goals as goal
 
-pub invariant-of-self : goal.invariant-of-self
-invariant-of-self c =
+pub invariant_of-self : goal.invariant_of-self
+invariant_of-self c =
     let s = c.args.self.now in
-    let kept = turn_keeps _ _ _ s.few_posts s.ascending s.inside _ _ c.in-ok-admit.ensures _ c.in-Ok.at c.opposite.result c.in-Ok.ensures
+    let kept = turn_keeps _ _ _ s.few_posts s.ascending s.inside _ _ c.in_ok-admit.ensures _ c.in-Ok.at c.opposite.result c.in-Ok.ensures
     (taken_flip s.len c.in-Ok.at s.entries c.opposite.result c.in-Ok.ensures.within) in
     (s.few_buses, (s.few_posts, (s.bounded, (s.within, (kept.0, (kept.1, tt))))))
 
 pub returns-in-Ok : goal.returns-in-Ok
 returns-in-Ok c =
     let s = c.args.self.now in
-    turn_turns _ _ _ s.few_posts s.ascending s.inside _ _ c.in-ok-admit.ensures _ c.in-Ok.at _ c.opposite.result c.in-Ok.ensures
+    turn_turns _ _ _ s.few_posts s.ascending s.inside _ _ c.in_ok-admit.ensures _ c.in-Ok.at _ c.opposite.result c.in-Ok.ensures
     (c.opposite.ensures.carries ∙ ap (λ s. other (carried s)) (sym (taken_side s.len c.in-Ok.at s.entries c.in-Ok.ensures.within)))
     (taken_flip s.len c.in-Ok.at s.entries c.opposite.result c.in-Ok.ensures.within)
 
 pub returns-in-Err : goal.returns-in-Err
 returns-in-Err c =
     let s = c.args.self.now in
-    turn_absent _ _ _ s.few_posts s.ascending s.inside _ _ c.in-ok-admit.ensures c.in-Err.field-0 _ c.in-Err.ensures
+    turn_absent _ _ _ s.few_posts s.ascending s.inside _ _ c.in_ok-admit.ensures c.in-Err.field-0 _ c.in-Err.ensures
 
-pub offset-bounds-self-at : goal.offset-bounds-self-at
-offset-bounds-self-at c =
+pub offset_bounds-self-at : goal.offset_bounds-self-at
+offset_bounds-self-at c =
     let s = c.args.self.now in
     let some : c.in-Ok.at < s.len = within_taken s.len c.in-Ok.at s.entries c.in-Ok.ensures.within in
     search rules

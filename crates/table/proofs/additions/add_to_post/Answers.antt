@@ -25,9 +25,9 @@ returns g c =
     (subst (λ (b : ℕ). AllLeading (g.S.View.means c.add.new.self) (b + c.args.post) c.leading-queue.result) c.buses-buses.ensures c.leading-queue.ensures) in
     let chosen = subst (λ (b : ℕ). Chosen (under c.loads-loads.result (g.R.Rule.limits c.args.rule.now) b (g.S.View.means c.args.store.now).posts) c.leading-queue.result c.lowest-place.result) c.buses-buses.ensures
     (subst (λ (p : ℕ). Chosen (under c.loads-loads.result (g.R.Rule.limits c.args.rule.now) c.buses-buses.result p) c.leading-queue.result c.lowest-place.result) c.posts-posts.ensures c.lowest-place.ensures) in
-    let turned = subst (λ (k : Meaning). TurnedBack c.leading-queue.result c.lowest-place.result k (g.S.View.means c.turn-back.new.store)) after-add c.turn-back.ensures.turned in
+    let turned = subst (λ (k : Meaning). TurnedBack c.leading-queue.result c.lowest-place.result k (g.S.View.means c.turn_back.new.store)) after-add c.turn_back.ensures.turned in
     record {
-      room = ap (λ (k : ℕ). k + 1) c.turn-back.ensures.room ∙ put_in.1;
+      room = ap (λ (k : ℕ). k + 1) c.turn_back.ensures.room ∙ put_in.1;
       added = added_to_post m (g.R.Rule.limits c.args.rule.now) (g.met.R.Rule.lawful c.args.rule.now).rises (g.met.S.View.bounded c.args.store.now) c.requires.even c.args.bus c.args.post f.bus f.post f.absent
-          c.requires.full c.loads-loads.result c.loads-loads.ensures c.leading-queue.result all c.lowest-place.result chosen (g.S.View.means c.turn-back.new.store) turned;
+          c.requires.full c.loads-loads.result c.loads-loads.ensures c.leading-queue.result all c.lowest-place.result chosen (g.S.View.means c.turn_back.new.store) turned;
     }

@@ -17,23 +17,23 @@ descend-requires g c =
       low = omega arith;
     }
 
-pub turn-back-requires : goal.turn-back-requires
-turn-back-requires g c = record {
+pub turn_back-requires : goal.turn_back-requires
+turn_back-requires g c = record {
   over = against_pairs (g.S.View.means c.args.store.now) c.descend.new.queue c.descend.new.marks c.in-Some.ensures.state;
   found = (c.in-Some.ensures.finds c.in-Some.field-0-0 c.in-Some.place refl).2;
 }
 
 pub returns-in-Some : goal.returns-in-Some
 returns-in-Some g c = record {
-  room = c.turn-back.ensures.room;
+  room = c.turn_back.ensures.room;
   turned = turned_found (g.S.View.means c.args.store.now) (g.R.Rule.limits c.args.rule.now) (g.met.R.Rule.lawful c.args.rule.now).rises (g.met.S.View.bounded c.args.store.now) c.requires.even c.args.node c.requires.inside
-      c.descend.new.queue c.descend.new.marks c.in-Some.field-0-0 c.in-Some.place c.in-Some.ensures (g.S.View.means c.turn-back.new.store) c.turn-back.ensures.turned;
+      c.descend.new.queue c.descend.new.marks c.in-Some.field-0-0 c.in-Some.place c.in-Some.ensures (g.S.View.means c.turn_back.new.store) c.turn_back.ensures.turned;
 }
 
 pub returns-then-node-buses : goal.returns-then-node-buses
 returns-then-node-buses g c =
     let t = turned_one (g.S.View.means c.args.store.now) (g.R.Rule.limits c.args.rule.now) (g.met.R.Rule.lawful c.args.rule.now).rises (g.met.S.View.bounded c.args.store.now) c.requires.even
-    c.args.node (omega (arith, c.buses.ensures, c.if-node-buses.true)) c.descend.new.queue c.descend.new.marks c.in-None.ensures c.first-carrying-post.result c.first-carrying-post.ensures
+    c.args.node (omega (arith, c.buses.ensures, c.if-node-buses.true)) c.descend.new.queue c.descend.new.marks c.in-None.ensures c.first_carrying-post.result c.first_carrying-post.ensures
     (g.S.View.means c.turn.new.self) (g.S.Store.room c.args.store.now) (g.S.Store.room c.turn.new.self) c.turn.result c.turn.ensures in
     record { room = t.0; turned = t.1 }
 

@@ -4,6 +4,6 @@ use Rattle.table.proofs.evening.settle.Goals as goal
 
 pub returns : goal.returns
 returns g c = record {
-  room = c.turn-one.ensures.room ∙ c.loop.invariant.0 ∙ c.settle-buses.ensures.room;
-  settled = settled_whole _ _ _ _ _ c.settle-buses.ensures.settled c.loop.invariant.1 c.loop-test.ensures.turned;
+  room = c.turn_one.ensures.room ∙ c.loop.invariant.0 ∙ c.settle_buses.ensures.room;
+  settled = settled_whole _ _ _ _ _ c.settle_buses.ensures.settled c.loop.invariant.1 c.loop-test.ensures.turned;
 }

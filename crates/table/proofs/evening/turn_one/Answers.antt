@@ -15,6 +15,6 @@ uneven-requires g c =
 
 pub returns-in-Some : goal.returns-in-Some
 returns-in-Some g c = record {
-  room = c.turn-back.ensures.room;
-  turned = chain_turned _ _ _ (g.met.R.Rule.lawful c.args.rule.now).rises (g.met.S.View.bounded c.args.store.now) c.requires.right _ _ c.in-Some.ensures c.turn-back.ensures.turned;
+  room = c.turn_back.ensures.room;
+  turned = chain_turned _ _ _ (g.met.R.Rule.lawful c.args.rule.now).rises (g.met.S.View.bounded c.args.store.now) c.requires.right _ _ c.in-Some.ensures c.turn_back.ensures.turned;
 }

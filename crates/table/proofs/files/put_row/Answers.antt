@@ -7,8 +7,8 @@ pub loop-post-init : goal.loop-post-init
 loop-post-init g c =
     subst (λ t. Wrote c.args.out.now c.args.at t c.args.out.now c.args.at) (sym (no_row (g.S.View.means c.args.view.now) c.args.bus)) (wrote_none c.args.out.now c.args.at)
 
-pub put-pair-end-requires : goal.put-pair-end-requires
-put-pair-end-requires g c = record {
+pub put_pair-end-requires : goal.put_pair-end-requires
+put_pair-end-requires g c = record {
   pair = (c.requires.bus, omega (arith, c.posts-post-end.ensures));
   room =
       pair_fits (g.S.View.means c.args.view.now) c.args.bus c.loop-post.post c.args.at c.loop-post.end (length c.loop-post.out)
@@ -17,9 +17,9 @@ put-pair-end-requires g c = record {
 
 pub loop-post-preserved : goal.loop-post-preserved
 loop-post-preserved g c =
-    subst (λ t. Wrote c.args.out.now c.args.at t c.put-pair-end.new.out c.put-pair-end.result)
+    subst (λ t. Wrote c.args.out.now c.args.at t c.put_pair-end.new.out c.put_pair-end.result)
     (sym (row_more (g.S.View.means c.args.view.now) c.args.bus c.loop-post.post))
-    (wrote_then _ _ c.loop-post.invariant c.put-pair-end.ensures)
+    (wrote_then _ _ c.loop-post.invariant c.put_pair-end.ensures)
 
 pub returns : goal.returns
 returns g c =

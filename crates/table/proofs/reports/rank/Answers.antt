@@ -15,8 +15,8 @@ descend-requires g c = record {
   low = omega arith;
 }
 
-pub overflow-cast-result : goal.overflow-cast-result
-overflow-cast-result g c =
+pub overflow_cast-result : goal.overflow_cast-result
+overflow_cast-result g c =
     let h : c.in-Some.level < 256 = (c.in-Some.ensures.finds c.in-Some.level c.in-Some.field-0-1 refl).1 in
     search rules
 

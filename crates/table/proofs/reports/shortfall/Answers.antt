@@ -15,8 +15,8 @@ loop-post-preserved g c =
     let lp : c.loop-post.post < (g.S.View.means c.args.view.now).posts = omega (arith, c.posts-post-end.ensures) in
     let s = sum_more c.loop-post.post (λ p. post_load (yard_of (g.S.View.means c.args.view.now)) (sides_of (g.S.View.means c.args.view.now)) p - (g.R.Rule.limits c.args.rule.now).post c.args.level p) in
     let l = c.loads-loads.ensures c.loop-post.post lp in (
-      omega (arith, s, l, c.loop-post.invariant.0, c.saturating-sub-total.ensures, c.from.ensures, c.post-limit.ensures),
-      omega (arith, c.loop-post.invariant.1, c.saturating-sub-total.ensures, c.from.ensures, c.loop-post-test.element-fits.fits),
+      omega (arith, s, l, c.loop-post.invariant.0, c.saturating_sub-total.ensures, c.from.ensures, c.post_limit.ensures),
+      omega (arith, c.loop-post.invariant.1, c.saturating_sub-total.ensures, c.from.ensures, c.loop-post-test.element-fits.fits),
     )
 
 pub returns : goal.returns

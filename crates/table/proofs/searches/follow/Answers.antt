@@ -5,14 +5,14 @@ use Rattle.table.proofs.Searching.{is_marked, is_unmarked, space, within, follow
 use Rattle.table.proofs.searches.follow.Goals.{then-marks-to-eq0+then-leads+else-wanted, else-marks-to-eq0, else-marks-to-eq0-via-then-marks-to-eq0+else-leads, else-marks-to-eq0-via-else-marks-to-eq0}
 use Rattle.table.proofs.searches.follow.Goals as goal
 
-pub offset-bounds-queue-place : goal.offset-bounds-queue-place
-offset-bounds-queue-place g c = omega (arith, within _ _ _ _ c.requires.state, c.requires.more, c.requires.state.few)
+pub offset_bounds-queue-place : goal.offset_bounds-queue-place
+offset_bounds-queue-place g c = omega (arith, within _ _ _ _ c.requires.state, c.requires.more, c.requires.state.few)
 
 pub bounds-queue-place : goal.bounds-queue-place
 bounds-queue-place g c = omega (arith, within _ _ _ _ c.requires.state, c.requires.more, c.requires.state.few)
 
-pub overflow-cast-place : goal.overflow-cast-place
-overflow-cast-place g c = omega (arith, within _ _ _ _ c.requires.state, c.requires.more, c.requires.state.few)
+pub overflow_cast-place : goal.overflow_cast-place
+overflow_cast-place g c = omega (arith, within _ _ _ _ c.requires.state, c.requires.more, c.requires.state.few)
 
 pub push-requires : goal.push-requires
 push-requires g c =

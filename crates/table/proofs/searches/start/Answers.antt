@@ -2,8 +2,8 @@ use Rattle.std.proofs.Common.{arith}
 use Rattle.table.proofs.Searching.{is_unmarked, space, within, started}
 use Rattle.table.proofs.searches.start.Goals as goal
 
-pub overflow-cast-place : goal.overflow-cast-place
-overflow-cast-place g c = omega (arith, within _ _ _ _ c.requires.state, c.requires.state.few)
+pub overflow_cast-place : goal.overflow_cast-place
+overflow_cast-place g c = omega (arith, within _ _ _ _ c.requires.state, c.requires.state.few)
 
 pub push-requires : goal.push-requires
 push-requires g c =

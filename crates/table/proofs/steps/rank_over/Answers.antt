@@ -5,16 +5,16 @@ use Rattle.table.proofs.Refusing.{refused_bytes, refused_first, node_refused, no
 use Rattle.table.proofs.Accepting.{reported}
 use Rattle.table.proofs.steps.rank_over.Goals as goal
 
-pub returns-in-err-nodes : goal.returns-in-err-nodes
-returns-in-err-nodes g c =
+pub returns-in_err-nodes : goal.returns-in_err-nodes
+returns-in_err-nodes g c =
     let p = err_from_is_err_and c.from-residual.result c.from-residual.ensures.1 in
-    refused_bytes _ _ _ _ _ _ _ c.from-residual.result c.in-err-nodes.ensures.0 (p.2 ∙ c.in-err-nodes.ensures.1) p.1
+    refused_bytes _ _ _ _ _ _ _ c.from-residual.result c.in_err-nodes.ensures.0 (p.2 ∙ c.in_err-nodes.ensures.1) p.1
 
 pub returns-then-node-nodes : goal.returns-then-node-nodes
 returns-then-node-nodes g c =
-    refused_first _ _ _ _ _ _ _ _ c.in-ok-nodes.ensures.0 (node_refused _ c.args.node (omega (arith, c.if-node-nodes.true, c.in-ok-nodes.ensures.1))) refl
+    refused_first _ _ _ _ _ _ _ _ c.in_ok-nodes.ensures.0 (node_refused _ c.args.node (omega (arith, c.if-node-nodes.true, c.in_ok-nodes.ensures.1))) refl
 
 pub returns : goal.returns
 returns g c =
-    reported _ _ _ _ _ _ _ _ c.rank.result c.in-ok-nodes.ensures.0 (node_passes _ c.args.node (omega (arith, c.if-node-nodes.false, c.in-ok-nodes.ensures.1)))
+    reported _ _ _ _ _ _ _ _ c.rank.result c.in_ok-nodes.ensures.0 (node_passes _ c.args.node (omega (arith, c.if-node-nodes.false, c.in_ok-nodes.ensures.1)))
     c.settle.ensures.settled c.settle.ensures.room refl (λ Z e. e) (λ e. e) (ap the_rank c.rank.ensures)

@@ -2,5 +2,5 @@ use Rattle.std.proofs.Common.{arith}
 use Rattle.console.proofs.Writes.{zeros}
 use Rattle.console.proofs.text.Text.new.Goals as goal
 
-pub invariant-of-result : goal.invariant-of-result
-invariant-of-result c = (omega arith, (λ k w. zeros 64 k, tt))
+pub invariant_of-result : goal.invariant_of-result
+invariant_of-result c = (omega arith, (λ k w. zeros 64 k, tt))
