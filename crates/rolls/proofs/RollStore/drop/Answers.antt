@@ -7,7 +7,7 @@ pub invariant_of-self : goal.invariant_of-self
 invariant_of-self c =
     let s = c.args.self.now in
     let kept = drop_keeps _ _ _ s.few_posts s.ascending s.inside _ _ c.in_ok-admit.ensures _ c.in-Ok.at c.in-Ok.ensures c.remove.ensures in
-    (s.few_buses, (s.few_posts, (s.bounded, (omega arith, (kept.0, (kept.1, tt))))))
+    record { few_buses = s.few_buses; few_posts = s.few_posts; bounded = s.bounded; within = omega arith; ascending = kept.0; inside = kept.1 }
 
 pub returns-in-Ok : goal.returns-in-Ok
 returns-in-Ok c =

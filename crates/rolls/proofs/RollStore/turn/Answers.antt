@@ -9,7 +9,7 @@ invariant_of-self c =
     let s = c.args.self.now in
     let kept = turn_keeps _ _ _ s.few_posts s.ascending s.inside _ _ c.in_ok-admit.ensures _ c.in-Ok.at c.opposite.result c.in-Ok.ensures
     (taken_flip s.len c.in-Ok.at s.entries c.opposite.result c.in-Ok.ensures.within) in
-    (s.few_buses, (s.few_posts, (s.bounded, (s.within, (kept.0, (kept.1, tt))))))
+    record { few_buses = s.few_buses; few_posts = s.few_posts; bounded = s.bounded; within = s.within; ascending = kept.0; inside = kept.1 }
 
 pub returns-in-Ok : goal.returns-in-Ok
 returns-in-Ok c =

@@ -16,7 +16,7 @@ loop-post-preserved g c =
     let s = sum_more c.loop-post.post (λ p. post_load (yard_of (g.S.View.means c.args.view.now)) (sides_of (g.S.View.means c.args.view.now)) p - (g.R.Rule.limits c.args.rule.now).post c.args.level p) in
     let l = c.loads-loads.ensures c.loop-post.post lp in (
       omega (arith, s, l, c.loop-post.invariant.0, c.saturating_sub-total.ensures, c.from.ensures, c.post_limit.ensures),
-      omega (arith, c.loop-post.invariant.1, c.saturating_sub-total.ensures, c.from.ensures, c.loop-post-test.element-fits.fits),
+      omega (arith, c.loop-post.invariant.1, c.saturating_sub-total.ensures, c.from.ensures, c.loop-post-test.element_fits.fits),
     )
 
 pub returns : goal.returns

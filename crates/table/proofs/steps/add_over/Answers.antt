@@ -6,13 +6,13 @@ use Rattle.table.proofs.steps.add_over.Goals as goal
 
 pub returns-in_err-enough : goal.returns-in_err-enough
 returns-in_err-enough g c =
-    let p = err_from_is_err_and c.from-residual.result c.from-residual.ensures.1 in
-    refused_bytes _ _ _ _ _ _ _ c.from-residual.result c.in_err-enough.ensures.0 (p.2 ∙ c.in_err-enough.ensures.1) p.1
+    let p = err_from_is_err_and c.from_residual.result c.from_residual.ensures.1 in
+    refused_bytes _ _ _ _ _ _ _ c.from_residual.result c.in_err-enough.ensures.0 (p.2 ∙ c.in_err-enough.ensures.1) p.1
 
 pub returns-in_err-addable : goal.returns-in_err-addable
 returns-in_err-addable g c =
-    let p = err_from_is_err_and c.from-residual-in_err-addable.result c.from-residual-in_err-addable.ensures.1 in
-    refused_first _ _ _ _ _ _ _ c.from-residual-in_err-addable.result c.in_ok-enough.ensures.0 c.in_err-addable.ensures (p.1 ∙ ap Err p.2)
+    let p = err_from_is_err_and c.from_residual-in_err-addable.result c.from_residual-in_err-addable.ensures.1 in
+    refused_first _ _ _ _ _ _ _ c.from_residual-in_err-addable.result c.in_ok-enough.ensures.0 c.in_err-addable.ensures (p.1 ∙ ap Err p.2)
 
 pub returns : goal.returns
 returns g c =

@@ -5,7 +5,7 @@ use Rattle.table.proofs.steps.pair_file_over.Goals as goal
 
 pub returns-in_err-enough : goal.returns-in_err-enough
 returns-in_err-enough g c =
-    let p = err_from_is_err_and c.from-residual.result c.from-residual.ensures.1 in
+    let p = err_from_is_err_and c.from_residual.result c.from_residual.ensures.1 in
     file_bytes _ _ _ _ _ c.in_err-enough.ensures.0 _ _ (p.2 ∙ c.in_err-enough.ensures.1) p.1
 
 pub write_pairs-requires : goal.write_pairs-requires

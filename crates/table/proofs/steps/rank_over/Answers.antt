@@ -7,8 +7,8 @@ use Rattle.table.proofs.steps.rank_over.Goals as goal
 
 pub returns-in_err-nodes : goal.returns-in_err-nodes
 returns-in_err-nodes g c =
-    let p = err_from_is_err_and c.from-residual.result c.from-residual.ensures.1 in
-    refused_bytes _ _ _ _ _ _ _ c.from-residual.result c.in_err-nodes.ensures.0 (p.2 ∙ c.in_err-nodes.ensures.1) p.1
+    let p = err_from_is_err_and c.from_residual.result c.from_residual.ensures.1 in
+    refused_bytes _ _ _ _ _ _ _ c.from_residual.result c.in_err-nodes.ensures.0 (p.2 ∙ c.in_err-nodes.ensures.1) p.1
 
 pub returns-then-node-nodes : goal.returns-then-node-nodes
 returns-then-node-nodes g c =

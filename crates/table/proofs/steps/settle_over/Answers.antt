@@ -6,8 +6,8 @@ use Rattle.table.proofs.steps.settle_over.Goals as goal
 
 pub returns-in_err-enough : goal.returns-in_err-enough
 returns-in_err-enough g c =
-    let p = err_from_is_err_and c.from-residual.result c.from-residual.ensures.1 in
-    refused_bytes _ _ _ _ _ _ _ c.from-residual.result c.in_err-enough.ensures.0 (p.2 ∙ c.in_err-enough.ensures.1) p.1
+    let p = err_from_is_err_and c.from_residual.result c.from_residual.ensures.1 in
+    refused_bytes _ _ _ _ _ _ _ c.from_residual.result c.in_err-enough.ensures.0 (p.2 ∙ c.in_err-enough.ensures.1) p.1
 
 pub returns : goal.returns
 returns g c =
