@@ -1,5 +1,6 @@
-use Rattle.std.proofs.Common.{sym, refl, ap, ◌∙◌, subst, arith}
+use Rattle.std.proofs.Common.{refl, ap, ◌∙◌, arith, w16}
 use Rattle.std.proofs.lemmas.Result.{err_from_is_err_and}
+use Rattle.std.proofs.lemmas.Int.{to_z-of_z}
 use Rattle.table.specs.declared.calls.Answer.TheVariants.{Rank as the_rank}
 use Rattle.table.proofs.Refusing.{refused_bytes, refused_first, node_refused, node_passes}
 use Rattle.table.proofs.Accepting.{reported}
@@ -16,5 +17,5 @@ returns-then-node-nodes g c =
 
 pub returns : goal.returns
 returns g c =
-    reported _ _ _ _ _ _ _ _ c.rank.result c.in_ok-nodes.ensures.0 (node_passes _ c.args.node (omega (arith, c.if-node-nodes.false, c.in_ok-nodes.ensures.1)))
-    c.settle.ensures.settled c.settle.ensures.room refl (λ Z e. e) (λ e. e) (ap the_rank c.rank.ensures)
+    reported _ _ _ _ _ _ _ _ _ c.in_ok-nodes.ensures.0 (node_passes _ c.args.node (omega (arith, c.if-node-nodes.false, c.in_ok-nodes.ensures.1)))
+    c.settle.ensures.settled c.settle.ensures.room refl (λ Z e. e) (λ e. e) (ap the_rank (to_z-of_z w16 c.rank.result (record { sfits = c.rank.type_inv }) ∙ c.rank.ensures))
