@@ -1,6 +1,5 @@
 use crate::{Grid, Lent, Owned};
 use std::process::Abort;
-use std::test::Fail;
 use stores::faults::StoreFault;
 use stores::pairs::{Side, Standing};
 use stores::plans::assign;
@@ -8,7 +7,7 @@ use stores::swaps::Swap;
 use stores::views::{Store, View};
 
 // No buses, no posts, no room: every call is refused for want of a bus, and the bytes stay.
-fn is_void(rt: &impl Abort, buses: u16, posts: u16) -> Result<(), Fail> {
+fn is_void(rt: &impl Abort, buses: u16, posts: u16) {
     let mut bytes = [0x9cu8; 3];
     let mut grid = Grid::over(Lent(&mut bytes), buses, posts);
     assert_eq!(rt; (grid.buses(), grid.posts(), grid.room()), (0, 0, 0));
@@ -17,16 +16,16 @@ fn is_void(rt: &impl Abort, buses: u16, posts: u16) -> Result<(), Fail> {
     assert_eq!(rt; grid.drop(0, 0), none);
     assert_eq!(rt; grid.turn(0, 0), none);
     assert_eq!(rt; bytes, [0x9c; 3]);
-    Ok(())
 }
 
 #[test]
-fn void(rt: HostRuntime) -> Result<(), Fail> {
-    is_void(&rt, 0, 1)?;
-    is_void(&rt, 1, 0)?;
-    is_void(&rt, 257, 1)?;
-    is_void(&rt, 1, 257)?;
-    is_void(&rt, 2, 5).note("one byte too few")
+fn void(rt: HostRuntime) {
+    is_void(&rt, 0, 1);
+    is_void(&rt, 1, 0);
+    is_void(&rt, 257, 1);
+    is_void(&rt, 1, 257);
+    // one byte too few
+    is_void(&rt, 2, 5);
 }
 
 // The low bit of an absent pair is garbage, as are the bits beyond the one cell.
