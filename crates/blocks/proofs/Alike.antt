@@ -1,5 +1,5 @@
 -- Only the pairs and limits of the yard's own buses and posts count.
-use Rattle.std.proofs.Common.{◌≡◌, ℕ, ◌+◌, ◌-◌, ◌<◌, Bool, ◌&&◌, sym, ap, ◌∙◌, arith}
+use Rattle.std.proofs.Common.{◌≡◌, ℕ, ◌+◌, ◌<◌, Bool, ◌&&◌, sym, ap, ◌∙◌, arith}
 use Rattle.blocks.specs.Sums.{bit}
 use Rattle.blocks.specs.Sets.{Set, Same}
 use Rattle.blocks.specs.Limits.{Limits, limit_at}

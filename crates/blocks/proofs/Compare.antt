@@ -1,5 +1,5 @@
 -- The comparison lemma, and what follows from it: unique, nested, monotone in the pairs.
-use Rattle.std.proofs.Common.{◌≡◌, ℕ, ◌+◌, ◌-◌, ◌<◌, ◌≤◌, Bool, true, not, ◌&&◌, ◌||◌, inl, inr, le_refl, arith}
+use Rattle.std.proofs.Common.{◌≡◌, ℕ, ◌+◌, ◌<◌, ◌≤◌, Bool, true, not, ◌&&◌, ◌||◌, inl, inr, le_refl, arith}
 use Rattle.std.proofs.lemmas.Bool.{cases_Bool, and_parts, and_from, not-true, not_from_false}
 use Rattle.blocks.specs.Sums.{bit}
 use Rattle.blocks.specs.Sets.{Set, ◌∪◌, ◌∖◌, Within, Apart, Same}

@@ -1,5 +1,5 @@
 -- The table of examples holds: one computed test, and what it says of each case.
-use Rattle.std.proofs.Common.{◌≡◌, ℕ, zero, suc, ◌+◌, ◌<◌, ◌≤◌, Bool, true, false, leb, List, [], ◌∷◌, ◌++◌, map, length, get_or, ℤ, pos, sym, refl, ap, ◌∙◌, mul-suc, arith}
+use Rattle.std.proofs.Common.{◌≡◌, ℕ, zero, suc, ◌<◌, ◌≤◌, Bool, true, false, leb, List, [], ◌∷◌, ◌++◌, map, length, get_or, ℤ, pos, sym, refl, ap, ◌∙◌, mul-suc, arith}
 use Rattle.std.specs.List.{AllByRecursion as All}
 use Rattle.blocks.specs.Sums.{sum}
 use Rattle.blocks.specs.Sets.{largest}

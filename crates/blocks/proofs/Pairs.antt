@@ -1,5 +1,5 @@
 -- Pairs gain more from a larger set; limits add up. Each is a statement on Booleans, summed.
-use Rattle.std.proofs.Common.{◌≡◌, ℕ, ◌+◌, ◌-◌, ◌<◌, ◌≤◌, Bool, true, false, cond, not, ◌&&◌, ◌||◌, refl, ap, ap₂, arith}
+use Rattle.std.proofs.Common.{◌≡◌, ℕ, ◌+◌, ◌<◌, ◌≤◌, Bool, true, false, cond, not, ◌&&◌, ◌||◌, refl, ap, ap₂, arith}
 use Rattle.std.proofs.lemmas.Bool.{true≢false, false≢true}
 use Rattle.blocks.specs.Sums.{sum, bit}
 use Rattle.blocks.specs.Sets.{Set, ◌∪◌, ◌∩◌, ◌∖◌, Within, Apart, Same}

@@ -1,5 +1,5 @@
 -- What an accepted call promises: its sides were made even first, and then it read or changed them.
-use Rattle.std.proofs.Common.{◌≡◌, ℕ, ◌+◌, ◌-◌, ◌<◌, ◌≤◌, true, false, List, [], pos, Some, None, Ok, Err, Option, Result, sym, refl, ap, ◌∙◌, subst, ap₂, arith}
+use Rattle.std.proofs.Common.{◌≡◌, ℕ, ◌+◌, ◌-◌, ◌≤◌, false, List, [], pos, Some, None, Ok, Option, Result, sym, refl, ap, ◌∙◌, subst, ap₂, arith}
 use mathlib.Core.Path.{fun_ext}
 use Rattle.std.proofs.lemmas.Bool.{both_ways}
 use Rattle.blocks.specs.Sums.{bit}
@@ -22,8 +22,8 @@ use Rattle.table.specs.Yards.{yard_of, sides_of}
 use Rattle.table.specs.Searches.{marked}
 use Rattle.table.specs.Levels.{size}
 use Rattle.table.specs.Buses.{SamePairs}
-use Rattle.table.specs.Evening.{EvenSides, Settled}
-use Rattle.table.specs.Updates.{Addable, Droppable, AddedEven, DroppedEven}
+use Rattle.table.specs.Evening.{Settled}
+use Rattle.table.specs.Updates.{AddedEven, DroppedEven}
 use Rattle.table.specs.Reports.{BlockMarked, count_from, FirstMember}
 use Rattle.table.specs.Calls.{model_of, reasons, first, after, Right, RanksMove, SidesTurn, SideTold, Accepted, Promised}
 use Rattle.table.proofs.Refusing.{some_none, long, add_checked, drop_checked, told_standing, standing_false}

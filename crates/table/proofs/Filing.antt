@@ -1,5 +1,5 @@
 -- What the pair file call promises.
-use Rattle.std.proofs.Common.{◌≡◌, ℕ, ◌+◌, ◌*◌, ◌<◌, ◌≤◌, ltb, List, [], ◌∷◌, ◌++◌, length, drop, Some, None, Ok, Err, Result, sym, refl, ap, ◌∙◌, subst, arith}
+use Rattle.std.proofs.Common.{◌≡◌, ℕ, ◌*◌, ◌<◌, ◌≤◌, ltb, List, [], ◌∷◌, ◌++◌, length, drop, Some, Ok, Err, Result, sym, refl, ap, ◌∙◌, subst}
 use Rattle.std.proofs.lemmas.Bool.{lt-ltb, le-ltb}
 use Rattle.blocks.specs.Limits.{Limits}
 use Rattle.stores.specs.Meaning.{Meaning}
@@ -9,7 +9,7 @@ use Rattle.table.specs.Yards.{yard_of}
 use Rattle.table.specs.Levels.{size}
 use Rattle.table.specs.Evening.{Settled}
 use Rattle.table.specs.Calls.{model_of, first, ◌⇒◌}
-use Rattle.table.specs.Files.{pair_file, pair_count, file_refusal, FileMade, FilePromised}
+use Rattle.table.specs.Files.{pair_file, pair_count, file_refusal, FilePromised}
 use Rattle.table.proofs.Refusing.{some_none, applies, passes}
 use Rattle.table.proofs.Accepting.{same_yard}
 use Rattle.table.proofs.Writing.{file_length}

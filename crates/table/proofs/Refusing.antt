@@ -1,5 +1,5 @@
 -- Which reason to refuse applies first, and what a refused call promises.
-use Rattle.std.proofs.Common.{◌≡◌, ℕ, ◌<◌, ◌≤◌, Bool, true, false, not, eqb, ltb, leb, ◌⊎◌, List, [], ◌∷◌, Some, None, Ok, Err, Option, Result, sym, refl, ap, ◌∙◌, inl, inr, arith}
+use Rattle.std.proofs.Common.{◌≡◌, ℕ, ◌<◌, ◌≤◌, Bool, true, false, not, eqb, ltb, leb, List, [], ◌∷◌, Some, None, Ok, Err, Result, sym, refl, ap, ◌∙◌, inl, inr, arith}
 use Rattle.std.proofs.lemmas.Bool.{cases_lt, both_ways, lt-ltb, le-ltb, le-leb, lt-leb, leb-false, eqb-false, not-false, cond-true, cond-false}
 use Rattle.blocks.specs.Limits.{Limits}
 use Rattle.stores.specs.Meaning.{Meaning, stands}
@@ -11,11 +11,11 @@ use Rattle.stores.specs.declared.faults.StoreFault.TheVariants.{NoBus, NoPost, S
 use Rattle.table.specs.declared.faults.TableFault.{TableFault}
 use Rattle.table.specs.declared.faults.TableFault.TheVariants.{Level, Bytes, Node, Store}
 use Rattle.table.specs.declared.calls.Call.{Call}
-use Rattle.table.specs.declared.calls.Call.TheVariants.{Settle, Add, Drop, Side, Rank, Block, Member, Shortfall}
+use Rattle.table.specs.declared.calls.Call.TheVariants.{Add, Drop}
 use Rattle.table.specs.declared.calls.Answer.{Answer}
 use Rattle.table.specs.Levels.{size}
 use Rattle.table.specs.Updates.{Addable, Droppable}
-use Rattle.table.specs.Calls.{Model, model_of, Reason, ◌⇒◌, first, reasons, refusal, Refused, Promised}
+use Rattle.table.specs.Calls.{model_of, Reason, ◌⇒◌, first, reasons, refusal, Promised}
 
 -- a reason that applies is the first; one that does not is passed over
 pub applies : (t : Bool) (f : TableFault) (rs : List Reason) → t ≡ true → first (t ⇒ f ∷ rs) ≡ Some f

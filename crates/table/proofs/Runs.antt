@@ -1,5 +1,5 @@
 -- A list of calls made one after the other.
-use Rattle.std.proofs.Common.{◌≡◌, ℕ, ◌+◌, ◌<◌, ◌≤◌, min, ◌⊎◌, List, [], ◌∷◌, ◌++◌, length, get_or, take, set, Some, None, Option, Result, sym, refl, ap, ◌∙◌, subst, inl, inr, arith}
+use Rattle.std.proofs.Common.{◌≡◌, ℕ, ◌+◌, ◌<◌, ◌≤◌, min, List, [], ◌∷◌, ◌++◌, length, get_or, take, set, Some, None, Option, Result, sym, refl, ap, ◌∙◌, subst, inl, inr, arith}
 use Rattle.std.proofs.lemmas.Bool.{cases_lt}
 use Rattle.std.proofs.lemmas.List.{take_more, take_more_set, take_all}
 use Rattle.blocks.specs.Limits.{Limits}
@@ -13,7 +13,7 @@ use Rattle.table.specs.declared.calls.Entry.{Entry}
 use Rattle.table.specs.Levels.{size}
 use Rattle.table.specs.Evening.{EvenSides}
 use Rattle.table.specs.Calls.{Model, model_of, refusal, Accepted, Promised}
-use Rattle.table.specs.Lists.{Held, held, told, Modelled, Step, Run, done, call, ListMade}
+use Rattle.table.specs.Lists.{Held, held, Step, Run, done, call, ListMade}
 use Rattle.table.proofs.Refusing.{long}
 
 -- no yard has more than 512 nodes, so that more working bytes make no difference

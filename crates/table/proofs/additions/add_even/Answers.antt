@@ -1,4 +1,4 @@
-use Rattle.std.proofs.Common.{◌<◌, sym, subst, arith}
+use Rattle.std.proofs.Common.{sym, subst, arith}
 use Rattle.stores.specs.Meaning.{Meaning}
 use Rattle.table.specs.Updates.{AddedEven}
 use Rattle.table.proofs.Adding.{added_to_bus}

@@ -1,6 +1,5 @@
-use Rattle.std.proofs.Common.{◌≡◌, ℕ, ◌+◌, sym, ap, ◌∙◌, subst, arith}
-use Rattle.stores.specs.Meaning.{Meaning, put}
-use Rattle.stores.specs.declared.pairs.Standing.TheVariants.{Post}
+use Rattle.std.proofs.Common.{ℕ, ◌+◌, ap, ◌∙◌, subst}
+use Rattle.stores.specs.Meaning.{Meaning}
 use Rattle.table.specs.Searches.{TurnedBack}
 use Rattle.table.specs.Levels.{under}
 use Rattle.table.specs.Updates.{AllLeading, Chosen}

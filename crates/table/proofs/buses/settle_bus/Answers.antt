@@ -1,4 +1,4 @@
-use Rattle.std.proofs.Common.{◌-◌, arith}
+use Rattle.std.proofs.Common.{arith}
 use Rattle.table.proofs.SettlingBuses.{both_sides, settled_up, settled_down}
 use Rattle.table.proofs.buses.settle_bus.Goals as goal
 

@@ -1,4 +1,4 @@
-use Rattle.std.proofs.Common.{◌-◌, ◌<◌, sym, ◌∙◌, arith}
+use Rattle.std.proofs.Common.{◌<◌, sym, ◌∙◌, arith}
 use Rattle.table.proofs.TurningSome.{stands_on, turning_some_skip, turning_some_more, turning_some_end}
 use Rattle.table.proofs.buses.turn_some.Goals.{then-left-gt0+then-carries, else-left-gt0, else-left-gt0-via-then-left-gt0+else-carries, else-left-gt0-via-else-left-gt0}
 use Rattle.table.proofs.buses.turn_some.Goals as goal

@@ -1,4 +1,4 @@
-use Rattle.std.proofs.Common.{◌≡◌, ◌+◌, [], length, replicate, refl, arith, rules}
+use Rattle.std.proofs.Common.{◌≡◌, [], length, replicate, refl, arith, rules}
 use Rattle.table.proofs.Searching.{searched_none}
 use Rattle.table.proofs.EvenSides.{against_pairs, right_within, even_right}
 use Rattle.table.proofs.Dropping.{turned_found, turned_free, turned_one}

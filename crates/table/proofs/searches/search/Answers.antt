@@ -1,4 +1,4 @@
-use Rattle.std.proofs.Common.{◌-◌, refl, arith}
+use Rattle.std.proofs.Common.{refl, arith}
 use Rattle.table.proofs.Searching.{within, seeking_more, sought_found}
 use Rattle.table.proofs.searches.search.Goals as goal
 
