@@ -3,7 +3,7 @@
 #![tactic(auto)]
 
 ghost use Rattle.std.specs.Prelude.{ℕ, ◌+◌, pos};
-ghost use Rattle.std.specs.List.{AllByRecursion as All};
+ghost use Rattle.std.specs.List.{AllByRecursion};
 ghost use Rattle.blocks.specs.Sets.{nobody};
 ghost use Rattle.blocks.specs.Blocks.{block, shortfall};
 ghost use Rattle.blocks.specs.Examples.{Right, RightSides, examples, side_examples};
@@ -75,6 +75,6 @@ pub fn settling_ends()
 
 // The example yards have the ranks and shortfalls that their table says, and the sides in theirs are even or not as it says.
 pub fn example_yards()
-    ensures ranks { All Right examples }
-    ensures sides { All RightSides side_examples }
+    ensures ranks { AllByRecursion Right examples }
+    ensures sides { AllByRecursion RightSides side_examples }
 {}
