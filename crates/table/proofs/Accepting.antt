@@ -17,7 +17,7 @@ use Rattle.table.specs.declared.faults.TableFault.{TableFault}
 use Rattle.table.specs.declared.calls.Call.{Call}
 use Rattle.table.specs.declared.calls.Call.TheVariants.{Add, Drop}
 use Rattle.table.specs.declared.calls.Answer.{Answer}
-use Rattle.table.specs.declared.calls.Answer.TheVariants.{Done, Side as the_side, Block as TheBlock, Member as the_member}
+use Rattle.table.specs.declared.calls.Answer.TheVariants.{Done, Side as the_side, Block as the_block, Member as the_member}
 use Rattle.table.specs.Yards.{yard_of, sides_of}
 use Rattle.table.specs.Searches.{marked}
 use Rattle.table.specs.Levels.{size}
@@ -111,9 +111,9 @@ module _ (m : Meaning) (L : Limits) (a : ℕ) (marks : List ℕ) (of-block : Blo
       sum_cong count (λ k. bit (marked marks (start + k))) (λ k. bit (block_at (yard_of m) L a (start + k))) (λ k w. ap bit (of-block (start + k) (omega arith)))
 
   pub block_both : (buses posts x y : ℕ) → buses ≡ m.buses → posts ≡ m.posts → x ≡ count_from (marked marks) 0 buses → y ≡ count_from (marked marks) buses posts
-      → TheBlock x y ≡ TheBlock (count_from (block_at (yard_of m) L a) 0 m.buses) (count_from (block_at (yard_of m) L a) m.buses m.posts)
+      → the_block x y ≡ the_block (count_from (block_at (yard_of m) L a) 0 m.buses) (count_from (block_at (yard_of m) L a) m.buses m.posts)
   block_both buses posts x y eb ep ex ey =
-      ap₂ TheBlock (ex ∙ ap (count_from (marked marks) 0) eb ∙ block_counted 0 m.buses (omega arith))
+      ap₂ the_block (ex ∙ ap (count_from (marked marks) 0) eb ∙ block_counted 0 m.buses (omega arith))
       (ey ∙ ap₂ (count_from (marked marks)) eb ep ∙ block_counted m.buses m.posts (omega arith))
 
   block_first : (start : ℕ) (r : Option ℕ) → FirstMember (marked marks) start (size m) r → FirstMember (block_at (yard_of m) L a) start (size m) r

@@ -15,7 +15,7 @@ use Rattle.table.specs.declared.faults.TableFault.TheVariants.{Level, Bytes, Nod
 use Rattle.table.specs.declared.calls.Call.{Call}
 use Rattle.table.specs.declared.calls.Call.TheVariants.{Settle, Add, Drop, Side, Rank, Block, Member, Shortfall}
 use Rattle.table.specs.declared.calls.Answer.{Answer}
-use Rattle.table.specs.declared.calls.Answer.TheVariants.{Done, Side as the_side, Rank as the_rank, Block as TheBlock, Member as the_member, Shortfall as the_shortfall}
+use Rattle.table.specs.declared.calls.Answer.TheVariants.{Done, Side as the_side, Rank as the_rank, Block as the_block, Member as the_member, Shortfall as the_shortfall}
 use Rattle.table.specs.Yards.{yard_of, sides_of}
 use Rattle.table.specs.Evening.{EvenSides}
 use Rattle.table.specs.Reports.{count_from, FirstMember}
@@ -91,7 +91,7 @@ Right L Y m (Add b p) r = r ≡ Done
 Right L Y m (Drop b p) r = r ≡ Done
 Right L Y m (Side b p) r = (s : Standing) × (r ≡ the_side s) × SideTold Y m b p s
 Right L Y m (Rank n) r = r ≡ the_rank (rank Y L n)
-Right L Y m (Block a) r = r ≡ TheBlock (count_from (block_at Y L a) 0 Y.buses) (count_from (block_at Y L a) Y.buses Y.posts)
+Right L Y m (Block a) r = r ≡ the_block (count_from (block_at Y L a) 0 Y.buses) (count_from (block_at Y L a) Y.buses Y.posts)
 Right L Y m (Member a n) r = (k : Option ℕ) × (r ≡ the_member k) × FirstMember (block_at Y L a) n (nodes Y) k
 Right L Y m (Shortfall a) r = r ≡ the_shortfall (shortfall_at Y L a)
 

@@ -1,6 +1,6 @@
 ghost use Rattle.std.specs.Prelude.{length};
 ghost use Rattle.table.specs.declared.calls.Call.TheVariants.{Settle as settling, Add as addition, Drop as removal, Side as asks_side, Rank as asks_rank, Block as asks_block, Member as asks_member, Shortfall as asks_shortfall};
-ghost use Rattle.table.specs.declared.calls.Answer.TheVariants.{Done as is_done, Side as the_side, Rank as the_rank, Block as TheBlock, Member as the_member, Shortfall as the_shortfall};
+ghost use Rattle.table.specs.declared.calls.Answer.TheVariants.{Done as is_done, Side as the_side, Rank as the_rank, Block as the_block, Member as the_member, Shortfall as the_shortfall};
 ghost use Rattle.table.specs.Calls.{Promised};
 ghost use Rattle.table.specs.Files.{FilePromised};
 
@@ -105,7 +105,7 @@ pub(crate) fn block_over<S: Store, R: Rule>(
     level: u16,
     marks: &mut [u8],
 ) -> Result<(u16, u16), TableFault>
-    ensures { Promised (λ v. TheBlock v.0 v.1) (R.Rule.limits rule.now) (length marks.old) (asks_block level) (S.View.means store.old) (S.View.means store.new) (S.Store.room store.old) (S.Store.room store.new) result }
+    ensures { Promised (λ v. the_block v.0 v.1) (R.Rule.limits rule.now) (length marks.old) (asks_block level) (S.View.means store.old) (S.View.means store.new) (S.Store.room store.old) (S.Store.room store.new) result }
 {
     enough(store, marks.len())?;
     take_level(level)?;

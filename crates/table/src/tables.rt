@@ -1,6 +1,6 @@
 ghost use Rattle.std.specs.Prelude.{◌≡◌, length, replicate};
 ghost use Rattle.table.specs.declared.calls.Call.TheVariants.{Settle as settling, Add as addition, Drop as removal, Side as asks_side, Rank as asks_rank, Block as asks_block, Member as asks_member, Shortfall as asks_shortfall};
-ghost use Rattle.table.specs.declared.calls.Answer.TheVariants.{Done as is_done, Side as the_side, Rank as the_rank, Block as TheBlock, Member as the_member, Shortfall as the_shortfall};
+ghost use Rattle.table.specs.declared.calls.Answer.TheVariants.{Done as is_done, Side as the_side, Rank as the_rank, Block as the_block, Member as the_member, Shortfall as the_shortfall};
 ghost use Rattle.table.specs.Calls.{Promised};
 ghost use Rattle.table.specs.Files.{FilePromised};
 
@@ -99,7 +99,7 @@ impl<S: Store, R: Rule> Table<S, R> {
     pub fn block(&mut self, level: u16, bytes: &mut [u8]) -> Result<(u16, u16), TableFault>
         ensures zero { bytes.new ≡ replicate (length bytes.old) 0 }
         ensures rule { self.new.rule ≡ self.old.rule }
-        ensures does { Promised (λ v. TheBlock v.0 v.1) (R.Rule.limits self.old.rule) (length bytes.old) (asks_block level) (S.View.means self.old.store) (S.View.means self.new.store) (S.Store.room self.old.store) (S.Store.room self.new.store) result }
+        ensures does { Promised (λ v. the_block v.0 v.1) (R.Rule.limits self.old.rule) (length bytes.old) (asks_block level) (S.View.means self.old.store) (S.View.means self.new.store) (S.Store.room self.old.store) (S.Store.room self.new.store) result }
     {
         let guard = Cleared::over(bytes);
         block_over(&mut self.store, &self.rule, level, guard.0)
