@@ -4,8 +4,9 @@
 usage: python3 tools/respell.py        at the top of the repository, once, after the language's own script
 
 A definition, lemma, record field or constructor is in snake case; a type, and a statement, which is a type, is in upper camel case.
-A name keeps its words. Names that Rattle makes of the source (goals, loops, conditions, clauses) have dashes of their own and stay,
-as does all Rust: of a .rt file only ghost lines and clauses are read, and of a comment only what stands between backticks.
+A name keeps its words. Names that Rattle makes of the source (goals, loops, conditions, clauses) have dashes of their own and stay.
+A .rt file is read like the others: no name of Rust has a dash, so only its ghost lines and clauses can change. Of a comment only what
+stands between backticks is read.
 """
 
 import os
@@ -33,7 +34,7 @@ APART = {
 }
 # A name that some Rust function has too, in another module: nothing falls together.
 BESIDE = {"add_to_post", "bus_limit", "by_post", "drop_even", "drop_over", "few_buses", "few_posts", "pair_file"}
-# Names of the library, which some files declare again for themselves.
+# Names of the library that begin a line in some file, where they look like a declaration.
 LIBRARY = {"cond-false", "ltb-true", "lt-ltb", "length-append", "get_or-take"}
 
 

@@ -5,7 +5,7 @@ ghost use Rattle.std.specs.Prelude.{◌≡◌, ℕ, ◌≤◌, List, length};
 ghost use Rattle.blocks.specs.Limits.{Limits, Lawful};
 ghost use Rattle.rules.specs.Rated.{rated, ByteAt, WordAt, SheetChecked};
 ghost use Rattle.rules.specs.Rules.{flat, Lowest};
-ghost use Rattle.std.proofs.Common.{rules, arith};
+ghost use Rattle.std.proofs.Common.{rules};
 ghost use Rattle.rules.specs.Rates.{rated_lawful};
 
 // A limit rule. What it says is fixed: asking changes nothing.
@@ -39,7 +39,7 @@ impl Flat {
 impl Rule for Flat {
     ghost limits = { λ f. flat f.limit };
 
-    ghost lawful = { first_of (Prim.search rules, Prim.grind (arith, Self.row.coded.inj)) };
+    ghost lawful = { Prim.search rules };
 
     fn bus_limit(&self, _bus: u16) -> u32 {
         u32::from(self.limit)

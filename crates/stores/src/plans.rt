@@ -13,9 +13,9 @@ fn bring<S: Store>(
     from: Standing,
     to: Standing,
 ) -> Result<(), StoreFault>
-    requires bus_bound { bus < (S.View.means store.old).buses }
-    requires post_bound { post < (S.View.means store.old).posts }
-    requires post_value { (S.View.means store.old).standing bus post ≡ from }
+    requires bus { bus < (S.View.means store.old).buses }
+    requires post { post < (S.View.means store.old).posts }
+    requires stands { (S.View.means store.old).standing bus post ≡ from }
     ensures { Brought (S.View.means store.old) (S.View.means store.new) (S.Store.room store.old) (S.Store.room store.new) bus post to result }
 {
     match (from, to) {

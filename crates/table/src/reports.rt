@@ -52,7 +52,7 @@ impl LevelGoal for NoNode {
 pub(crate) struct OneNode(pub(crate) u16);
 
 impl LevelGoal for OneNode {
-    ghost sought = { λ one _ n. (n == one.0) };
+    ghost sought = { λ one _ n. n == one.0 };
 
     fn sought(&self, _level: u16, node: u16) -> bool {
         node == self.0
