@@ -1,7 +1,7 @@
 pub mod Numerals
 pub mod Cuts
 pub mod Readings
-pub mod Writes
-pub mod Phrases
+pub mod Room
 pub mod Zeros
+pub mod Lines
 pub mod Nonzero

@@ -1,14 +1,14 @@
 -- No answer has a zero byte.
-use Rattle.std.proofs.Common.{◌≡◌, ℕ, zero, suc, ◌+◌, ◌/◌, ◌%◌, ◌<◌, Bool, true, false, ◌&&◌, eqb, ltb, List, [], ◌∷◌, ◌++◌, ℤ, pos, negsuc, codes, decimal, refl, arith}
+use Rattle.std.proofs.Common.{◌≡◌, ℕ, zero, suc, ◌+◌, ◌/◌, ◌%◌, ◌<◌, Bool, true, false, ◌&&◌, eqb, ltb, List, [], ◌∷◌, ◌++◌, ℤ, pos, negsuc, codes, decimal, Result, Ok, Err, refl, arith}
 use Rattle.std.specs.Fmt.{digits, signed_decimal, digits_onto, digit_glyph}
 use Rattle.std.proofs.lemmas.Bool.{ltb-true, and_parts, and_from, cond_both, lt-ltb}
 use Rattle.table.specs.declared.faults.TableFault.{TableFault}
 use Rattle.table.specs.declared.faults.TableFault.TheVariants.{Level, Bytes, Node, Output, Store}
 use Rattle.console.specs.Faults.{line_number, layer, table_fault_layer, held}
 use Rattle.console.specs.Texts.{spaced, Zeroless}
-use Rattle.console.specs.Words.{words, text}
+use Rattle.console.specs.Words.{words, printed, text}
 use Rattle.console.specs.declared.answers.Answer.{Answer}
-use Rattle.console.specs.declared.answers.Answer.TheVariants.{Done, Rank, Block, Shortfall, Refused}
+use Rattle.console.specs.declared.answers.Answer.TheVariants.{Done, Rank, Block, Shortfall}
 use Rattle.console.specs.declared.faults.LineFault.{LineFault}
 use Rattle.console.specs.declared.faults.LineFault.TheVariants.{Unreadable, Fields, OutOfOrder, OutOfRange, Table}
 
@@ -63,7 +63,10 @@ nonzero_words Done = refl
 nonzero_words (Rank n) = nonzero_append (codes "rank ") (signed_decimal n) refl (nonzero_signed n)
 nonzero_words (Block b p) = nonzero_append (codes "block") (spaced (b ∷ p ∷ [])) refl (nonzero_spaced (b ∷ p ∷ []))
 nonzero_words (Shortfall n) = nonzero_append (codes "short") (spaced (n ∷ [])) refl (nonzero_spaced (n ∷ []))
-nonzero_words (Refused f) =
+
+nonzero_printed : (r : Result Answer LineFault) → nonzero (printed r) ≡ true
+nonzero_printed (Ok a) = nonzero_words a
+nonzero_printed (Err f) =
     nonzero_append (codes "no " ++ layer f) (spaced (line_number f ∷ held f)) (nonzero_append (codes "no ") (layer f) refl (nonzero_layer f)) (nonzero_spaced (line_number f ∷ held f))
 
 zeroless_from : (xs : List ℕ) → nonzero xs ≡ true → Zeroless xs
@@ -71,7 +74,7 @@ zeroless_from [] p k w e = omega arith
 zeroless_from (x ∷ xs) p zero w e = omega (arith, ltb-true 0 x (and_parts (ltb 0 x) (nonzero xs) p).0)
 zeroless_from (x ∷ xs) p (suc k) w e = zeroless_from xs (and_parts (ltb 0 x) (nonzero xs) p).1 k (omega arith) e
 
-pub zeroless_text : (line : ℕ) (a : Answer) → Zeroless (text line a)
-zeroless_text line a =
-    zeroless_from (text line a)
-    (nonzero_append (decimal line ++ 32 ∷ words a) (10 ∷ []) (nonzero_append (decimal line) (32 ∷ words a) (nonzero_decimal line) (nonzero_words a)) refl)
+pub zeroless_text : (line : ℕ) (r : Result Answer LineFault) → Zeroless (text line r)
+zeroless_text line r =
+    zeroless_from (text line r)
+    (nonzero_append (decimal line ++ 32 ∷ printed r) (10 ∷ []) (nonzero_append (decimal line) (32 ∷ printed r) (nonzero_decimal line) (nonzero_printed r)) refl)

@@ -1,10 +1,15 @@
 -- Lemmas on a text with zeros behind.
 use Rattle.std.proofs.Common.{◌≡◌, ℕ, ◌<◌, ◌≤◌, List, ◌++◌, length, get_or, take, replicate, sym, refl, ap, ◌∙◌, inl, inr, arith}
-use Rattle.std.proofs.lemmas.List.{get_or_append_left, get_or-append_right, get_or_past, get_or-take, take_at, take_all, length-take-le}
-use Rattle.std.proofs.lemmas.Bool.{cases_order}
+use Rattle.std.proofs.lemmas.List.{get_or-replicate, length-replicate, get_or_append_left, get_or-append_right, get_or_past, get_or-take, take_at, take_all, length-take-le}
+use Rattle.std.proofs.lemmas.Bool.{cases_lt, cases_order}
 use Rattle.console.specs.Inputs.{Shown}
 use Rattle.console.specs.Texts.{Zeroless}
-use Rattle.console.proofs.Writes.{zeros}
+
+zeros : (n k : ℕ) → get_or {A = ℕ} (replicate n 0) k 0 ≡ 0
+zeros n k = elim (cases_lt k n) [
+  | inl w ↦ get_or-replicate n k 0 0 w
+  | inr w ↦ get_or_past (replicate n 0) k 0 (omega (arith, length-replicate {A = ℕ} n 0))
+]
 
 -- a text without a zero ends at the first zero
 first_zero : (field : List ℕ) (n : ℕ) → ((k : ℕ) → k < n → get_or field k 0 ≡ 0 → ⊥) → get_or field n 0 ≡ 0

@@ -33,8 +33,8 @@ Fields bytes (n ∷ m ∷ ns) = (ds : List ℕ) × (rest : List ℕ) × (bytes �
 -- t a d b p k s
 abbrev pub letter : Command → ℕ
 letter (Open b p l) = 116
-letter (Add b p) = 97
-letter (Drop b p) = 100
+letter (Add q) = 97
+letter (Drop q) = 100
 letter (BusRank b) = 98
 letter (PostRank p) = 112
 letter (Block l) = 107
@@ -42,8 +42,8 @@ letter (Shortfall l) = 115
 
 abbrev pub numbers : Command → List ℕ
 numbers (Open b p l) = b ∷ p ∷ l ∷ []
-numbers (Add b p) = b ∷ p ∷ []
-numbers (Drop b p) = b ∷ p ∷ []
+numbers (Add q) = q.bus ∷ q.post ∷ []
+numbers (Drop q) = q.bus ∷ q.post ∷ []
 numbers (BusRank b) = b ∷ []
 numbers (PostRank p) = p ∷ []
 numbers (Block l) = l ∷ []

@@ -1,5 +1,4 @@
 pub mod Faults
-pub mod Holds
 pub mod Grammar
 pub mod Inputs
 pub mod Parts

@@ -1,5 +1,5 @@
 -- What the parts of the line reader promise.
-use Rattle.std.specs.Prelude.{◌≡◌, ℕ, ◌<◌, List, ◌∷◌, ◌++◌, length, Some, None, Ok, Err, Option, Result, ◌≢◌, slice_index}
+use Rattle.std.specs.Prelude.{◌≡◌, ℕ, ◌<◌, List, ◌∷◌, ◌++◌, length, Ok, Err, Option, Result, MatchOption, ◌≢◌, slice_index}
 use Rattle.std.specs.Borrow.{Bor}
 use Rattle.console.specs.Grammar.{Fields as fields, letter, numbers}
 use Rattle.console.specs.declared.commands.Command.{Command}
@@ -10,10 +10,9 @@ use Rattle.console.specs.declared.faults.LineFault.TheVariants.{Unreadable, Fiel
 abbrev pub Spaceless : List ℕ → Type 0
 Spaceless bytes = (i : ℕ) → i < length bytes → slice_index bytes i ≢ 32
 
--- cut at the first space
-abbrev pub Cut : List ℕ → Option (Bor (List ℕ) × Bor (List ℕ)) → Type 0
-Cut bytes None = Spaceless bytes
-Cut bytes (Some v) = (bytes ≡ v.0.now ++ 32 ∷ v.1.now) × Spaceless v.0.now
+-- cut at the first space, or whole where there is none
+abbrev pub Cut : List ℕ → List ℕ → Option (Bor (List ℕ)) → Type 0
+Cut bytes first rest = Spaceless first × MatchOption rest (bytes ≡ first) (λ behind. bytes ≡ first ++ 32 ∷ behind.now)
 
 -- refused: the bytes are not count numbers
 pub record Refuses (bytes : List ℕ) (count : ℕ) (e : LineFault) : Type 0 where

@@ -3,7 +3,6 @@ use Rattle.std.specs.Prelude.{◌≡◌, ℕ, ◌+◌, ◌-◌, ◌^◌, ◌≤�
 use Rattle.console.specs.Grammar.{Reads}
 use Rattle.console.specs.Words.{Printed}
 use Rattle.console.specs.declared.answers.Answer.{Answer}
-use Rattle.console.specs.declared.answers.Answer.TheVariants.{Refused}
 use Rattle.console.specs.declared.commands.Command.{Command}
 use Rattle.console.specs.declared.commands.Command.TheVariants.{Open, Add, Drop, BusRank, PostRank, Block, Shortfall}
 use Rattle.console.specs.declared.faults.LineFault.{LineFault}
@@ -12,8 +11,8 @@ use Rattle.console.specs.declared.faults.LineFault.TheVariants.{OutOfOrder, OutO
 -- sizes of 1 to 256 and a limit of at most 255; the other commands name none
 abbrev pub InRange : Command → Type 0
 InRange (Open b p l) = (1 ≤ b) × (b ≤ 256) × (1 ≤ p) × (p ≤ 256) × (l ≤ 255)
-InRange (Add b p) = Unit {0}
-InRange (Drop b p) = Unit {0}
+InRange (Add q) = Unit {0}
+InRange (Drop q) = Unit {0}
 InRange (BusRank b) = Unit {0}
 InRange (PostRank p) = Unit {0}
 InRange (Block l) = Unit {0}
@@ -35,14 +34,9 @@ pub record Replied (line : List ℕ) (r : Result Answer LineFault) : Type 0 wher
   pub reads : Reads line meaning
   pub follows : Follows meaning r
 
--- an answer, or the refusal
-abbrev pub printed : Result Answer LineFault → Answer
-printed (Ok a) = a
-printed (Err f) = Refused f
-
 -- a line is counted, as far as the counter goes, and answered under its number
 pub record Answered (line : List ℕ) (before after : ℕ) (bytes : List ℕ) : Type 0 where
   pub reply : Result Answer LineFault
   pub replied : Replied line reply
   pub counted : after ≡ min (before + 1) (2 ^ 32 - 1)
-  pub field : Printed after (printed reply) bytes
+  pub field : Printed after reply bytes

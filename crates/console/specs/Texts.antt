@@ -1,11 +1,6 @@
--- Texts in a buffer: what is written behind what, and the zeros behind all of it.
-use Rattle.std.specs.Prelude.{◌≡◌, ℕ, ◌+◌, ◌-◌, ◌^◌, ◌<◌, List, [], ◌∷◌, ◌++◌, length, take, replicate, decimal, ◌≢◌, slice_index, slice_index_or}
+-- Parts of a text, and the zeros behind it.
+use Rattle.std.specs.Prelude.{◌≡◌, ℕ, ◌-◌, ◌^◌, ◌<◌, List, [], ◌∷◌, ◌++◌, length, replicate, decimal, ◌≢◌, slice_index, slice_index_or}
 use Rattle.console.specs.Grammar.{weighed, DigitsOnly}
-
--- More was written behind the first len bytes. The buffer was bytes, and is bytes' now.
-pub record Wrote (bytes : List ℕ) (len : ℕ) (more : List ℕ) (bytes' : List ℕ) (len' : ℕ) : Type 0 where
-  pub grown : len' ≡ len + length more
-  pub front : take len' bytes' ≡ take len bytes ++ more
 
 -- numbers, each after one space
 abbrev pub spaced : List ℕ → List ℕ

@@ -1,7 +1,5 @@
-use crate::faults::LineFault;
-
-// What a line is answered.
-#[derive(Clone, Copy, PartialEq, Debug)]
+// What a line is answered, unless it is refused.
+#[derive(Clone, Copy, PartialEq, Eq, Debug)]
 pub enum Answer {
     // done, and nothing to tell
     Done,
@@ -10,5 +8,4 @@ pub enum Answer {
     // how many buses and posts a block has
     Block { buses: u16, posts: u16 },
     Shortfall(u32),
-    Refused(LineFault),
 }

@@ -1,12 +1,14 @@
+use stores::pairs::Pair;
+
 // What a line asks for.
 #[derive(Clone, Copy, PartialEq, Eq, Debug)]
 pub enum Command {
     // t: open a table
     Open { buses: u16, posts: u16, limit: u16 },
     // a: add a pair
-    Add { bus: u16, post: u16 },
+    Add(Pair),
     // d: drop a pair
-    Drop { bus: u16, post: u16 },
+    Drop(Pair),
     // b: the rank of a bus
     BusRank { bus: u16 },
     // p: the rank of a post

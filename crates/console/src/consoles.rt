@@ -12,7 +12,7 @@ const LARGEST_SIZE: u16 = 256;
 const LARGEST_LIMIT: u16 = 255;
 
 // Answers lines, and counts them.
-#[derive(Drop)]
+#[derive(Debug, Default, Drop)]
 pub struct Console {
     lines: u32,
 }
@@ -29,10 +29,7 @@ impl Console {
         ensures { Answered line.now self.old.lines self.new.lines result }
     {
         self.lines = self.lines.saturating_add(1);
-        match reply(line) {
-            Ok(answer) => field(self.lines, answer),
-            Err(fault) => field(self.lines, Answer::Refused(fault)),
-        }
+        field(self.lines, reply(line))
     }
 }
 
@@ -52,12 +49,8 @@ fn perform(command: Command) -> Result<Answer, LineFault>
         limit,
     } = command
     {
-        if buses < 1
-            || buses > LARGEST_SIZE
-            || posts < 1
-            || posts > LARGEST_SIZE
-            || limit > LARGEST_LIMIT
-        {
+        let sizes = 1..=LARGEST_SIZE;
+        if !sizes.contains(&buses) || !sizes.contains(&posts) || limit > LARGEST_LIMIT {
             return Err(LineFault::OutOfRange);
         }
     }

@@ -4,7 +4,7 @@ ghost use Rattle.console.specs.declared.faults.LineFault.TheVariants.{Table as b
 use table::faults::TableFault;
 
 // Why a line is refused. The numbers are in specs/Faults.
-#[derive(Clone, Copy, PartialEq, Debug)]
+#[derive(Clone, Copy, PartialEq, Eq, Debug)]
 pub enum LineFault {
     // 31: longer than 40 bytes, empty, or with another first letter
     Unreadable,

@@ -9,25 +9,20 @@ pub fn line_at(input: &[u8], from: usize) -> Option<&[u8]>
     ensures { Next input.now from result }
 {
     let end = input.len().min(LIMIT);
-    for at in from..end {
-        if input[at] == b'\n' {
-            return Some(&input[from..at]);
-        }
+    let rest = input.get(from..end)?;
+    match rest.iter().position(|byte| *byte == b'\n') {
+        Some(len) => Some(&rest[..len]),
+        None if from < end && end < LIMIT => Some(rest),
+        None => None,
     }
-    if from < end && end < LIMIT {
-        return Some(&input[from..end]);
-    }
-    None
 }
 
 // The bytes of a field before its zeros.
 pub fn shown(field: &[u8]) -> &[u8]
     ensures { Shown field.now result.now }
 {
-    for (i, byte) in field.iter().enumerate() {
-        if *byte == 0 {
-            return &field[0..i];
-        }
+    match field.iter().position(|byte| *byte == 0) {
+        Some(end) => &field[..end],
+        None => field,
     }
-    field
 }

@@ -12,4 +12,3 @@ pub mod printing;
 mod refusals;
 #[cfg(test)]
 mod tests;
-mod text;

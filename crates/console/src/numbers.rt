@@ -1,77 +1,56 @@
-ghost use Rattle.std.specs.Prelude.{◌≡◌, ◌≤◌, [], ◌∷◌, length, MatchOption, MatchResult};
+ghost use Rattle.std.specs.Prelude.{◌≤◌, MatchResult, SomeIff};
 ghost use Rattle.console.specs.Grammar.{Number, Fields, DigitsOnly, weighed};
 ghost use Rattle.console.specs.Parts.{Cut, Refuses};
 
 use crate::faults::LineFault;
 
-// A number has at most so many digits.
-const MOST_DIGITS: usize = 5;
-
-const LARGEST: u32 = 65_535;
-
-// The bytes before the first space, and those behind it.
-fn cut(fields: &[u8]) -> Option<(&[u8], &[u8])>
-    ensures { Cut fields.now result }
+// The value of digits, where a `u16` holds it.
+fn value(digits: &[u8]) -> Option<u16>
+    ensures { SomeIff result (DigitsOnly digits.now × (weighed digits.now ≤ 65535)) (weighed digits.now) }
 {
-    for (i, byte) in fields.iter().enumerate() {
-        if *byte == b' ' {
-            return Some((&fields[0..i], &fields[i + 1..]));
-        }
-    }
-    None
-}
-
-// The value of a few digits.
-fn value(digits: &[u8]) -> Option<u32>
-    requires { length digits.now ≤ 5 }
-    ensures { MatchOption result (DigitsOnly digits.now → ⊥) (λ n. DigitsOnly digits.now × (n ≡ weighed digits.now)) }
-{
-    let mut value: u32 = 0;
-    for digit in digits {
-        if !digit.is_ascii_digit() {
+    let mut value: u16 = 0;
+    for byte in digits {
+        if !byte.is_ascii_digit() {
             return None;
         }
-        value = 10 * value + u32::from(*digit - b'0');
+        value = value.checked_mul(10)?.checked_add(u16::from(*byte - b'0'))?;
     }
     Some(value)
 }
 
-// One number.
-pub(crate) fn single(digits: &[u8]) -> Result<u16, LineFault>
+// One number: digits, with no zero before others. So it has at most five, since a `u16` holds it.
+fn number(digits: &[u8]) -> Result<u16, LineFault>
     ensures { MatchResult result (λ n. Number digits.now n) (λ e. Refuses digits.now 1 e) }
 {
-    if digits.is_empty() || digits.len() > MOST_DIGITS {
+    if digits.is_empty() || digits.len() > 1 && digits[0] == b'0' {
         return Err(LineFault::Fields);
     }
-    if digits.len() > 1 && digits[0] == b'0' {
-        return Err(LineFault::Fields);
-    }
-    let Some(value) = value(digits) else {
-        return Err(LineFault::Fields);
-    };
-    if value > LARGEST {
-        return Err(LineFault::Fields);
-    }
-    Ok(value as u16)
+    value(digits).ok_or(LineFault::Fields)
 }
 
-// Two numbers with a space between.
-pub(crate) fn pair(fields: &[u8]) -> Result<(u16, u16), LineFault>
-    ensures { MatchResult result (λ v. Fields fields.now (v.0 ∷ v.1 ∷ [])) (λ e. Refuses fields.now 2 e) }
+// The bytes before the first space, and those behind it where there is one.
+fn cut(fields: &[u8]) -> (&[u8], Option<&[u8]>)
+    ensures { Cut fields.now result.0.now result.1 }
 {
-    let Some((first, rest)) = cut(fields) else {
-        return Err(LineFault::Fields);
-    };
-    Ok((single(first)?, single(rest)?))
+    match fields.iter().position(|byte| *byte == b' ') {
+        Some(at) => (&fields[..at], Some(&fields[at + 1..])),
+        None => (fields, None),
+    }
 }
 
-// Three numbers with a space between neighbours.
-pub(crate) fn triple(fields: &[u8]) -> Result<(u16, u16, u16), LineFault>
-    ensures { MatchResult result (λ v. Fields fields.now (v.0 ∷ v.1 ∷ v.2 ∷ [])) (λ e. Refuses fields.now 3 e) }
+// Numbers, with one space between neighbours.
+pub(crate) fn numbers<const N: usize>(fields: &[u8]) -> Result<[u16; N], LineFault>
+    ensures { MatchResult result (λ ns. Fields fields.now ns) (λ e. Refuses fields.now N e) }
 {
-    let Some((first, rest)) = cut(fields) else {
-        return Err(LineFault::Fields);
-    };
-    let (second, third) = pair(rest)?;
-    Ok((single(first)?, second, third))
+    let mut numbers = [0; N];
+    let mut rest = Some(fields);
+    for place in numbers.iter_mut() {
+        let (digits, behind) = cut(rest.ok_or(LineFault::Fields)?);
+        *place = number(digits)?;
+        rest = behind;
+    }
+    match rest {
+        Some(_) => Err(LineFault::Fields),
+        None => Ok(numbers),
+    }
 }

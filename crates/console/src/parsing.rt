@@ -3,7 +3,8 @@ ghost use Rattle.console.specs.Parts.{Chosen};
 
 use crate::commands::Command;
 use crate::faults::LineFault;
-use crate::numbers::{pair, single, triple};
+use crate::numbers::numbers;
+use stores::pairs::Pair;
 
 // A line has at most so many bytes.
 const LONGEST: usize = 40;
@@ -14,7 +15,7 @@ fn command(letter: char, fields: &[u8]) -> Result<Command, LineFault>
 {
     match letter {
         't' => {
-            let (buses, posts, limit) = triple(fields)?;
+            let [buses, posts, limit] = numbers::<3>(fields)?;
             Ok(Command::Open {
                 buses,
                 posts,
@@ -22,25 +23,29 @@ fn command(letter: char, fields: &[u8]) -> Result<Command, LineFault>
             })
         }
         'a' => {
-            let (bus, post) = pair(fields)?;
-            Ok(Command::Add { bus, post })
+            let [bus, post] = numbers::<2>(fields)?;
+            Ok(Command::Add(Pair { bus, post }))
         }
         'd' => {
-            let (bus, post) = pair(fields)?;
-            Ok(Command::Drop { bus, post })
+            let [bus, post] = numbers::<2>(fields)?;
+            Ok(Command::Drop(Pair { bus, post }))
         }
-        'b' => Ok(Command::BusRank {
-            bus: single(fields)?,
-        }),
-        'p' => Ok(Command::PostRank {
-            post: single(fields)?,
-        }),
-        'k' => Ok(Command::Block {
-            level: single(fields)?,
-        }),
-        's' => Ok(Command::Shortfall {
-            level: single(fields)?,
-        }),
+        'b' => {
+            let [bus] = numbers::<1>(fields)?;
+            Ok(Command::BusRank { bus })
+        }
+        'p' => {
+            let [post] = numbers::<1>(fields)?;
+            Ok(Command::PostRank { post })
+        }
+        'k' => {
+            let [level] = numbers::<1>(fields)?;
+            Ok(Command::Block { level })
+        }
+        's' => {
+            let [level] = numbers::<1>(fields)?;
+            Ok(Command::Shortfall { level })
+        }
         _ => Err(LineFault::Unreadable),
     }
 }

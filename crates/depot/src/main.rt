@@ -11,6 +11,7 @@ fn main(rt: HostRuntime) -> io::Result<()> {
     rt.stdin().take(LIMIT as u64).read_to_end(&mut input)?;
     let mut console = Console::new();
     let mut output = rt.stdout();
+    // By place and not by an iterator, since `line_at` promises what line begins where.
     let mut from = 0;
     while let Some(line) = line_at(&input, from) {
         let field = console.answer(line);

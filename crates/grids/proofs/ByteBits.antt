@@ -1,7 +1,7 @@
 -- The bits of one byte, by cells of two.
-use Rattle.std.proofs.Common.{◌≡◌, ℕ, zero, suc, ◌+◌, ◌-◌, ◌*◌, ◌/◌, ◌%◌, ◌^◌, ◌<◌, ◌≤◌, arith}
+use Rattle.std.proofs.Common.{◌≡◌, ℕ, zero, suc, ◌+◌, ◌-◌, ◌*◌, ◌/◌, ◌%◌, ◌^◌, ◌<◌, ◌≤◌, arith, Some, None}
 use Rattle.std.proofs.lemmas.Bool.Decides.{nat_tests}
-use Rattle.stores.specs.declared.pairs.Standing.TheVariants.{Absent, Bus, Post}
+use Rattle.stores.specs.declared.pairs.Side.TheVariants.{Bus, Post}
 use Rattle.grids.specs.Cells.{byte_bit, meant}
 
 -- four cells to a byte
@@ -25,11 +25,11 @@ unfolding byte_bit
 bit_small x j = omega arith
 
 -- what the number of a cell says of its meaning
-pub meant_absent : (h l : ℕ) → l ≤ 1 → 2 * h + l < 2 → meant h l ≡ Absent
+pub meant_absent : (h l : ℕ) → l ≤ 1 → 2 * h + l < 2 → meant h l ≡ None
 meant_absent h l u v = grind (arith, nat_tests)
 
-pub meant_bus : (h l : ℕ) → l ≤ 1 → 2 * h + l ≡ 2 → meant h l ≡ Bus
+pub meant_bus : (h l : ℕ) → l ≤ 1 → 2 * h + l ≡ 2 → meant h l ≡ (Some Bus)
 meant_bus h l u v = grind (arith, nat_tests)
 
-pub meant_post : (h l : ℕ) → l ≤ 1 → 2 < 2 * h + l → h ≤ 1 → meant h l ≡ Post
+pub meant_post : (h l : ℕ) → l ≤ 1 → 2 < 2 * h + l → h ≤ 1 → meant h l ≡ (Some Post)
 meant_post h l u v w = grind (arith, nat_tests)

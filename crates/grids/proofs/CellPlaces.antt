@@ -1,13 +1,10 @@
 -- Cells among all the bytes: where they are read, and what a write leaves.
-use Rattle.std.proofs.Common.{◌≡◌, ℕ, ◌+◌, ◌-◌, ◌*◌, ◌/◌, ◌%◌, ◌^◌, ◌<◌, ◌≤◌, ◌&&◌, ltb, List, length, get_or, take, drop, Ok, sym, ap, ◌∙◌, add-mul, arith, length-drop, length-take, get_or-drop, get_or-take}
-use Rattle.std.proofs.lemmas.Nat.{mul-le}
+use Rattle.std.proofs.Common.{◌≡◌, ℕ, ◌+◌, ◌-◌, ◌*◌, ◌/◌, ◌%◌, ◌^◌, ◌<◌, ◌≤◌, ◌&&◌, ltb, List, get_or, take, drop, sym, ap, ◌∙◌, arith, get_or-drop, get_or-take, Some, None}
 use Rattle.std.proofs.lemmas.Bool.{cond-true, and_from, lt-ltb}
 use Rattle.blocks.specs.Sums.{sum, bit}
 use Rattle.blocks.proofs.Sums.{sum_cong}
 use Rattle.stores.specs.Meaning.{stands}
-use Rattle.stores.specs.Promises.{Told}
-use Rattle.stores.specs.declared.pairs.Standing.{Standing}
-use Rattle.stores.specs.declared.pairs.Standing.TheVariants.{Absent, Bus, Post}
+use Rattle.stores.specs.declared.pairs.Side.TheVariants.{Bus, Post}
 use Rattle.grids.specs.Cells.{row, byte_bit, bit_at, cell_at, cell_means, meant, row_part, rows_mean}
 use Rattle.grids.proofs.ByteBits.{cell_number, bit_small, meant_absent, meant_bus, meant_post}
 
@@ -20,26 +17,22 @@ number_at xs p =
     let low_bit : (2 * p + 1) % 8 ≡ 2 * (p % 4) + 1 = omega arith in
     rw (high_byte, low_byte, high_bit, low_bit) (cell_number (get_or xs (p / 4) 0) (p % 4) (omega arith))
 
-pub read_absent : (xs : List ℕ) (p : ℕ) → (get_or xs (p / 4) 0 / 2 ^ (6 - 2 * (p % 4))) % 4 < 2 → cell_means xs (2 * p) ≡ Absent
+-- that number, as the byte is read
+abbrev cell : List ℕ → ℕ → ℕ
+cell xs p = (get_or xs (p / 4) 0 / 2 ^ (6 - 2 * (p % 4))) % 4
+
+pub read_absent : (xs : List ℕ) (p : ℕ) → cell xs p < 2 → cell_means xs (2 * p) ≡ None
 read_absent xs p h = meant_absent (bit_at xs (2 * p)) (bit_at xs (2 * p + 1)) (bit_small _ _) (omega (arith, number_at xs p))
 
-pub read_bus : (xs : List ℕ) (p : ℕ) → (get_or xs (p / 4) 0 / 2 ^ (6 - 2 * (p % 4))) % 4 ≡ 2 → cell_means xs (2 * p) ≡ Bus
+pub read_bus : (xs : List ℕ) (p : ℕ) → cell xs p ≡ 2 → cell_means xs (2 * p) ≡ Some Bus
 read_bus xs p h = meant_bus (bit_at xs (2 * p)) (bit_at xs (2 * p + 1)) (bit_small _ _) (omega (arith, number_at xs p))
 
-pub read_post : (xs : List ℕ) (p : ℕ) → 2 ≤ (get_or xs (p / 4) 0 / 2 ^ (6 - 2 * (p % 4))) % 4 → ((get_or xs (p / 4) 0 / 2 ^ (6 - 2 * (p % 4))) % 4 ≡ 2 → ⊥)
-    → cell_means xs (2 * p) ≡ Post
+pub read_post : (xs : List ℕ) (p : ℕ) → 2 ≤ cell xs p → (cell xs p ≡ 2 → ⊥) → cell_means xs (2 * p) ≡ Some Post
 read_post xs p h n = meant_post (bit_at xs (2 * p)) (bit_at xs (2 * p + 1)) (bit_small _ _) (omega (arith, number_at xs p)) (bit_small _ _)
-
--- a row ends within the bytes
-pub row_end : (b B w n : ℕ) → b < B → B * w ≤ n → b * w + w ≤ n
-row_end b B w n h fits = omega (arith, mul-le (b + 1) w B w (omega arith) (omega arith), add-mul b 1 w)
 
 -- a post's byte lies in the row
 pub in_row : (p P : ℕ) → p < P → p / 4 < row P
 in_row p P h = omega arith
-
-pub row_length : (xs : List ℕ) (P b : ℕ) → b * row P + row P ≤ length xs → length (row_part xs P b) ≡ row P
-row_length xs P b h = simp (length-take, length-drop) (omega arith)
 
 -- a bit of a part is a bit of the whole
 bit_part : (xs : List ℕ) (s w n : ℕ) → n < 8 * w → bit_at (take w (drop s xs)) n ≡ bit_at xs (8 * s + n)
@@ -56,14 +49,6 @@ row_cell xs P b p h =
     let high = bit_part xs (b * row P) (row P) (2 * p) (omega arith) in
     let low = bit_part xs (b * row P) (row P) (2 * p + 1) (omega arith) ∙ ap (bit_at xs) e in
     ap (λ x. meant x (bit_at (row_part xs P b) (2 * p + 1))) high ∙ ap (λ y. meant (bit_at xs (cell_at P b p)) y) low
-
--- the answer on a pair within the sizes
-pub told_rows : (xs : List ℕ) (B P b p : ℕ) (s : Standing) → b < B → p < P → s ≡ cell_means xs (cell_at P b p) → Told (rows_mean xs B P) b p (Ok s)
-told_rows xs B P b p s hb hp e = record {
-  no_bus = λ h. absurd (omega arith);
-  no_post = λ _ h. absurd (omega arith);
-  tells = λ _ _. ap Ok (e ∙ sym (cond-true (ltb b B && ltb p P) _ _ (and_from (ltb b B) (ltb p P) (lt-ltb b B hb) (lt-ltb p P hp))));
-}
 
 -- the count of a row, read by itself
 pub row_count : (xs : List ℕ) (B P b : ℕ) → b < B → sum P (λ p. bit (stands (cell_means (row_part xs P b) (2 * p)))) ≡ sum P (λ p. bit (stands ((rows_mean xs B P).standing b p)))

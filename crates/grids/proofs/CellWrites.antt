@@ -1,10 +1,10 @@
 -- What a byte is after one of its cells is written, by a computed test over every byte, cell, value and bit.
-use Rattle.std.proofs.Common.{◌≡◌, ℕ, zero, suc, ◌+◌, ◌-◌, ◌*◌, ◌/◌, ◌%◌, ◌^◌, ◌<◌, Bool, true, false, cond, T, eqb, refl, ap, ◌∙◌, le_of_suc-le-suc, not-suc-le-zero, arith, eqb→eq}
+use Rattle.std.proofs.Common.{◌≡◌, ℕ, zero, suc, ◌+◌, ◌-◌, ◌*◌, ◌/◌, ◌%◌, ◌^◌, ◌<◌, Bool, true, false, cond, T, eqb, refl, ap, ◌∙◌, le_of_suc-le-suc, not-suc-le-zero, arith, eqb→eq, Some, None, Option}
 use lib.Bits.{bit_and, bit_or}
 use Rattle.std.proofs.lemmas.Bool.{eq-eqb, ne_eqb}
 use Rattle.blocks.specs.Sums.{bit}
-use Rattle.stores.specs.declared.pairs.Standing.{Standing}
-use Rattle.stores.specs.declared.pairs.Standing.TheVariants.{Absent, Bus, Post}
+use Rattle.stores.specs.declared.pairs.Side.{Side}
+use Rattle.stores.specs.declared.pairs.Side.TheVariants.{Bus, Post}
 use Rattle.stores.specs.Meaning.{stands, by_post}
 use Rattle.grids.specs.Cells.{byte_bit, ByteWritten}
 
@@ -68,25 +68,25 @@ module _ (x k v : ℕ) (hx : x < 256) (hk : k < 4) (hv : v < 4) where
       let e = ne_eqb j (2 * k + 1) b in
       written_bit x k v j hx hk hv hj ∙ simp (d, e)
 
-abbrev number : Standing → ℕ
+abbrev number : Option Side → ℕ
 number s = 2 * bit (stands s) + bit (by_post s)
 
-number_small : (s : Standing) → number s < 4
-number_small Absent = omega arith
-number_small Bus = omega arith
-number_small Post = omega arith
+number_small : (s : Option Side) → number s < 4
+number_small None = omega arith
+number_small (Some Bus) = omega arith
+number_small (Some Post) = omega arith
 
-number_high : (s : Standing) → number s / 2 ≡ bit (stands s)
-number_high Absent = refl
-number_high Bus = refl
-number_high Post = refl
+number_high : (s : Option Side) → number s / 2 ≡ bit (stands s)
+number_high None = refl
+number_high (Some Bus) = refl
+number_high (Some Post) = refl
 
-number_low : (s : Standing) → number s % 2 ≡ bit (by_post s)
-number_low Absent = refl
-number_low Bus = refl
-number_low Post = refl
+number_low : (s : Option Side) → number s % 2 ≡ bit (by_post s)
+number_low None = refl
+number_low (Some Bus) = refl
+number_low (Some Post) = refl
 
-pub byte_written : (x k v : ℕ) (s : Standing) → x < 256 → k < 4 → v ≡ 2 * bit (stands s) + bit (by_post s) → ByteWritten x (written x k v) k s
+pub byte_written : (x k v : ℕ) (s : Option Side) → x < 256 → k < 4 → v ≡ 2 * bit (stands s) + bit (by_post s) → ByteWritten x (written x k v) k s
 byte_written x k v s hx hk e =
     let small : v < 4 = omega (arith, number_small s) in
     record {

@@ -1,20 +1,14 @@
 -- What a grid means after one cell is written.
-use Rattle.std.proofs.Common.{◌≡◌, ℕ, ◌+◌, ◌*◌, ◌/◌, ◌%◌, ◌<◌, ◌≤◌, Bool, true, false, cond, ◌&&◌, eqb, ltb, List, length, Ok, Err, Result, sym, refl, ap, ◌∙◌, subst, arith}
+use Rattle.std.proofs.Common.{◌≡◌, ℕ, ◌+◌, ◌*◌, ◌/◌, ◌%◌, ◌<◌, Bool, true, false, cond, ◌&&◌, eqb, ltb, List, sym, refl, ap, ◌∙◌, arith, Some, None, Option}
 use Rattle.std.proofs.lemmas.Nat.{div-mul-add, mod-mul-add}
 use Rattle.std.proofs.lemmas.Bool.{both_ways, cond-true, and_from, and_parts, eq-eqb, eqb-true, lt-ltb, ltb-true}
 use Rattle.blocks.specs.Sums.{bit}
-use Rattle.stores.specs.declared.faults.StoreFault.{StoreFault}
-use Rattle.stores.specs.Promises.{Told, Added, Dropped, Turned}
-use Rattle.stores.specs.declared.pairs.Standing.{Standing}
-use Rattle.stores.specs.declared.pairs.Standing.TheVariants.{Absent, Bus, Post}
 use Rattle.stores.specs.declared.pairs.Side.{Side}
-use Rattle.stores.specs.declared.pairs.Side.TheVariants.{Bus as bus_side, Post as post_side}
-use Rattle.stores.specs.Meaning.{stands, by_post, carried, other, put}
-use Rattle.grids.specs.Cells.{row, bit_at, cell_at, cell_means, meant, sized, rows_mean, grid_means, grid_room, CellWritten, BytesAfter}
+use Rattle.stores.specs.declared.pairs.Side.TheVariants.{Bus, Post}
+use Rattle.stores.specs.Meaning.{stands, by_post, put}
+use Rattle.grids.specs.Cells.{row, bit_at, cell_at, cell_means, meant, rows_mean, grid_room, CellWritten}
 use Rattle.stores.specs.Meanings.{same_meaning}
-use Rattle.grids.specs.Sizes.{sized_fits}
-use Rattle.grids.proofs.CellPlaces.{row_end, in_row}
-use Rattle.stores.proofs.Promised.{Found, found, added, dropped, turned}
+use Rattle.grids.proofs.CellPlaces.{in_row}
 use Rattle.grids.proofs.RoomSums.{room_moves}
 
 -- two cells in one byte lie in one row, and in one byte of it
@@ -31,33 +25,16 @@ apart P b p c q hp hq n e =
     n place.0 (omega (arith, place.1))
 
 -- the two bits of a standing mean it
-meant_back : (s : Standing) → meant (bit (stands s)) (bit (by_post s)) ≡ s
-meant_back Absent = refl
-meant_back Bus = refl
-meant_back Post = refl
+meant_back : (s : Option Side) → meant (bit (stands s)) (bit (by_post s)) ≡ s
+meant_back None = refl
+meant_back (Some Bus) = refl
+meant_back (Some Post) = refl
 
-where_true : (t : Bool) (x y z : Standing) → (t ≡ true → x ≡ y) → cond t x z ≡ cond t y z
+where_true : (t : Bool) (x y z : Option Side) → (t ≡ true → x ≡ y) → cond t x z ≡ cond t y z
 where_true true x y z h = h refl
 where_true false x y z h = refl
 
-carried_stands : (side : Side) → bit (stands (carried side)) ≡ 1
-carried_stands bus_side = refl
-carried_stands post_side = refl
-
-other_stands : (s : Standing) → bit (stands (other s)) ≡ bit (stands s)
-other_stands Absent = refl
-other_stands Bus = refl
-other_stands Post = refl
-
-some_stands : (s : Standing) → (s ≡ Absent → ⊥) → bit (stands s) ≡ 1
-some_stands Absent n = absurd (n refl)
-some_stands Bus n = refl
-some_stands Post n = refl
-
-never_refused : (f : StoreFault) → ◌≡◌ {A = Result (Unit {0}) StoreFault} (Ok tt) (Err f) → ⊥
-never_refused f e = let z : ◌≡◌ {A = ℕ} 0 1 = cc in omega arith
-
-module _ (xs ys : List ℕ) (B P b p : ℕ) (s : Standing) (hb : b < B) (hp : p < P) (w : CellWritten xs ys (cell_at P b p) s) where
+module _ (xs ys : List ℕ) (B P b p : ℕ) (s : Option Side) (hb : b < B) (hp : p < P) (w : CellWritten xs ys (cell_at P b p) s) where
   cell_here : cell_means ys (cell_at P b p) ≡ s
   cell_here = ap (λ x. meant x (bit_at ys (cell_at P b p + 1))) w.high ∙ (ap (λ x. meant (bit (stands s)) x) w.low ∙ meant_back s)
 
@@ -90,51 +67,6 @@ module _ (xs ys : List ℕ) (B P b p : ℕ) (s : Standing) (hb : b < B) (hp : p 
   pub written_rows : rows_mean ys B P ≡ put b p s (rows_mean xs B P)
   written_rows = same_meaning (rows_mean ys B P) (put b p s (rows_mean xs B P)) refl refl (λ c q. written_at c q (eqb c b && eqb q p) refl)
 
--- a pair that is found has its byte
-pub found_byte : (xs : List ℕ) (B P n b p : ℕ) (s : Standing) → n ≡ sized (length xs) B P P → Found (grid_means xs B P) b p s → b * row n + p / 4 < length xs
-found_byte xs B P n b p s e f =
-    let fits : sized (length xs) B P B * row n ≤ length xs =
-    subst (λ k. sized (length xs) B P B * row k ≤ length xs) (sym e) (sized_fits (length xs) B P).bytes in
-    omega (arith, row_end b (sized (length xs) B P B) (row n) (length xs) f.bus fits, in_row p n (omega (arith, f.post)))
-
-module _ (xs ys : List ℕ) (B P n b p : ℕ) (posts : n ≡ sized (length xs) B P P) where
-  whole : (s : Standing) → CellWritten xs ys (cell_at n b p) s → CellWritten xs ys (cell_at (sized (length xs) B P P) b p) s
-  whole s w = subst (λ k. CellWritten xs ys (cell_at k b p) s) posts w
-
-  -- a write keeps the sizes, and sets one pair
-  grid_written : (t s : Standing) → Found (grid_means xs B P) b p t → CellWritten xs ys (cell_at n b p) s → grid_means ys B P ≡ put b p s (grid_means xs B P)
-  grid_written t s f w =
-      ap (λ len. rows_mean ys (sized len B P B) (sized len B P P)) w.length_kept
-      ∙ written_rows xs ys (sized (length xs) B P B) (sized (length xs) B P P) b p s f.bus f.post (whole s w)
-
-  grid_moves : (t s : Standing) → Found (grid_means xs B P) b p t → CellWritten xs ys (cell_at n b p) s
-      → grid_room (grid_means ys B P) + bit (stands s) ≡ grid_room (grid_means xs B P) + bit (stands t)
-  grid_moves t s f w =
-      ap (λ m. grid_room m + bit (stands s)) (grid_written t s f w)
-      ∙ (room_moves (grid_means xs B P) b p s f.bus f.post ∙ ap (λ u. grid_room (grid_means xs B P) + bit (stands u)) f.standing)
-
-  pub grid_bytes : (s : Standing) → CellWritten xs ys (cell_at n b p) s → BytesAfter xs ys (cell_at (sized (length xs) B P P) b p) s (Ok tt)
-  grid_bytes s w = record { done = λ _. whole s w; refused = λ f e. absurd (never_refused f e) }
-
-  pub grid_added : (side : Side) (s : Standing) → s ≡ carried side → Told (grid_means xs B P) b p (Ok Absent) → CellWritten xs ys (cell_at n b p) s
-      → Added (grid_means xs B P) (grid_means ys B P) (grid_room (grid_means xs B P)) (grid_room (grid_means ys B P)) b p side (Ok tt)
-  grid_added side s e told w =
-      let f = found (grid_means xs B P) b p Absent told in
-      added (grid_means xs B P) (grid_means ys B P) _ _ b p side f
-      (grid_written Absent s f w ∙ ap (λ u. put b p u (grid_means xs B P)) e)
-      (omega (arith, grid_moves Absent s f w, ap (λ u. bit (stands u)) e, carried_stands side))
-
-  pub grid_dropped : (t : Standing) → Told (grid_means xs B P) b p (Ok t) → (t ≡ Absent → ⊥) → CellWritten xs ys (cell_at n b p) Absent
-      → Dropped (grid_means xs B P) (grid_means ys B P) (grid_room (grid_means xs B P)) (grid_room (grid_means ys B P)) b p (Ok tt)
-  grid_dropped t told n w =
-      let f = found (grid_means xs B P) b p t told in
-      dropped (grid_means xs B P) (grid_means ys B P) _ _ b p t f n (grid_written t Absent f w)
-      (omega (arith, grid_moves t Absent f w, some_stands t n))
-
-  pub grid_turned : (t s : Standing) → Told (grid_means xs B P) b p (Ok t) → (t ≡ Absent → ⊥) → s ≡ other t → CellWritten xs ys (cell_at n b p) s
-      → Turned (grid_means xs B P) (grid_means ys B P) (grid_room (grid_means xs B P)) (grid_room (grid_means ys B P)) b p (Ok tt)
-  grid_turned t s told n e w =
-      let f = found (grid_means xs B P) b p t told in
-      turned (grid_means xs B P) (grid_means ys B P) _ _ b p t f n
-      (grid_written t s f w ∙ ap (λ u. put b p u (grid_means xs B P)) e)
-      (omega (arith, grid_moves t s f w, ap (λ u. bit (stands u)) e, other_stands t))
+  -- room and what stands, against room and what stood
+  pub written_room : grid_room (rows_mean ys B P) + bit (stands s) ≡ grid_room (rows_mean xs B P) + bit (stands ((rows_mean xs B P).standing b p))
+  written_room = ap (λ m. grid_room m + bit (stands s)) written_rows ∙ room_moves (rows_mean xs B P) b p s hb hp

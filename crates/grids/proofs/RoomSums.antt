@@ -1,9 +1,9 @@
 -- Counts of standing pairs.
-use Rattle.std.proofs.Common.{◌≡◌, ℕ, zero, suc, ◌+◌, ◌*◌, ◌<◌, ◌≤◌, Bool, true, false, ◌&&◌, eqb, refl, ap, ◌∙◌, suc-mul, add-one, arith}
+use Rattle.std.proofs.Common.{◌≡◌, ℕ, zero, suc, ◌+◌, ◌*◌, ◌<◌, ◌≤◌, Bool, true, false, ◌&&◌, eqb, refl, ap, ◌∙◌, suc-mul, add-one, arith, Option}
 use Rattle.std.proofs.lemmas.Bool.{eq-eqb, ne_eqb, and_from, and_left, and_right, cond-true, cond-false}
 use Rattle.blocks.specs.Sums.{sum, bit}
 use Rattle.blocks.proofs.Sums.{sum_le, sum_bound, sum_one, sum_cong}
-use Rattle.stores.specs.declared.pairs.Standing.{Standing}
+use Rattle.stores.specs.declared.pairs.Side.{Side}
 use Rattle.stores.specs.Meaning.{Meaning, stands, put, standing_count}
 use Rattle.grids.specs.Cells.{grid_room}
 
@@ -42,7 +42,7 @@ pub pairs_few : (m : Meaning) → standing_count m ≤ m.buses * m.posts
 pairs_few m = rows_few m m.buses
 
 -- one pair set anew: the count changes by that pair alone
-module _ (m : Meaning) (b p : ℕ) (s : Standing) (hb : b < m.buses) (hp : p < m.posts) where
+module _ (m : Meaning) (b p : ℕ) (s : Option Side) (hb : b < m.buses) (hp : p < m.posts) where
   here : (put b p s m).standing b p ≡ s
   here = cond-true (eqb b b && eqb p p) _ _ (and_from (eqb b b) (eqb p p) (eq-eqb b b refl) (eq-eqb p p refl))
 

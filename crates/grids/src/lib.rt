@@ -1,131 +1,103 @@
 // A pair store over bytes: two bits a pair, a row a bus.
 #![tactic(auto)]
 
-ghost use Rattle.std.specs.Prelude.{◌≡◌, ℕ, ◌+◌, ◌*◌, ◌/◌, ◌%◌, ◌<◌, ◌≤◌, List, length, slice_set};
+ghost use Rattle.std.specs.Prelude.{◌≡◌, ℕ, ◌+◌, ◌*◌, ◌/◌, ◌%◌, ◌<◌, ◌≤◌, None, length, slice_set};
 ghost use Rattle.blocks.specs.Sums.{sum, bit};
-ghost use Rattle.stores.specs.Meaning.{stands, by_post, carried, other, standing_count};
+ghost use Rattle.stores.specs.Meaning.{stands, by_post, carried, other, put, standing_count};
 ghost use Rattle.stores.specs.Promises.{Added, Dropped, Turned};
-ghost use Rattle.grids.specs.Cells.{row, fitting, sized, cell_at, cell_means, row_part, rows_mean, grid_means, grid_room, ByteWritten, CellWritten, BytesAfter, Opened};
-ghost use Rattle.grids.specs.Sizes.{grid_bounded};
+ghost use Rattle.grids.specs.Cells.{row, fitting, cell_at, cell_means, row_part, rows_mean, grid_room, ByteWritten, CellWritten, BytesAfter, Opened};
+ghost use Rattle.grids.specs.Sizes.{rows_bounded};
 
+use std::convert::AsSlice;
 use stores::faults::StoreFault;
-use stores::pairs::{Side, Standing};
-use stores::sides::{carried_by, other_end};
+use stores::pairs::{Pair, Side};
 use stores::views::{Store, View};
 
 #[cfg(test)]
 mod tests;
 
 // Bytes that a grid works on: lent to it, or its own.
-pub trait Memory {
-    ghost bytes: { Self → List ℕ };
-
-    fn bytes(&self) -> &[u8]
-        ensures { result.now ≡ bytes self.now };
-
+pub trait Memory: AsSlice<u8> {
     // A write beyond the end changes nothing.
     fn put(&mut self, at: usize, value: u8)
-        ensures after { bytes self.new ≡ slice_set (bytes self.old) at value }
-        ensures len { length (bytes self.new) ≡ length (bytes self.old) };
+        ensures after { Self.items self.new ≡ slice_set (Self.items self.old) at value }
+        ensures len { length (Self.items self.new) ≡ length (Self.items self.old) };
 }
 
-// Bytes that the caller lends.
-#[derive(Drop)]
-pub struct Lent<'a>(pub &'a mut [u8]);
-
-impl Memory for Lent<'_> {
-    ghost bytes = { λ s. s.0.now };
-
-    fn bytes(&self) -> &[u8] {
-        &*self.0
-    }
-
+// std's `AsMut` promises nothing of what is written, so each kind of memory says how it is written.
+impl Memory for &mut [u8] {
     fn put(&mut self, at: usize, value: u8) {
-        let bytes = &mut *self.0;
+        let bytes = &mut **self;
         if at < bytes.len() {
             bytes[at] = value;
         }
     }
 }
 
-// Bytes of the grid's own.
-#[derive(Drop)]
-pub struct Owned<const N: usize>(pub [u8; N]);
-
-impl<const N: usize> Memory for Owned<N> {
-    ghost bytes = { λ s. s.0 };
-
-    fn bytes(&self) -> &[u8] {
-        &self.0[..]
-    }
-
+impl<const N: usize> Memory for [u8; N] {
     fn put(&mut self, at: usize, value: u8) {
-        if at < self.bytes().len() {
-            self.0[at] = value;
+        if at < self.len() {
+            self[at] = value;
         }
     }
 }
 
-// A store over bytes. With a size outside 1 to 256, or too few bytes, it is void: no buses, no posts, no room.
+// A store over bytes. Made with a size outside 1 to 256, or over too few bytes, it is void: no buses, no posts, no room.
 #[derive(Drop)]
-pub struct Grid<M> {
+pub struct Grid<M: Memory> {
     memory: M,
     buses: u16,
     posts: u16,
+    ghost few_buses: { buses ≤ 256 },
+    ghost few_posts: { posts ≤ 256 },
+    ghost fits: { buses * row posts ≤ length (M.items memory) },
 }
 
 // The bytes of a row.
 fn row_len(posts: u16) -> usize
     ensures { result ≡ row posts }
 {
-    (posts as usize + 3) / 4
+    usize::from(posts).div_ceil(4)
 }
 
 // Sizes in range, and bytes enough for the rows.
 fn fits(len: usize, buses: u16, posts: u16) -> bool
     ensures { result ≡ fitting len buses posts }
 {
-    0 < buses && buses < 257 && 0 < posts && posts < 257 && buses as usize * row_len(posts) <= len
-}
-
-// The row of a bus, lent to the reader of its cells.
-fn row_of(bytes: &[u8], posts: u16, bus: u16) -> &[u8]
-    requires { bus * row posts + row posts ≤ length bytes.now }
-    ensures { result.now ≡ row_part bytes.now posts bus }
-{
-    let len = row_len(posts);
-    let start = bus as usize * len;
-    &bytes[start..start + len]
+    (1..=256).contains(&buses)
+        && (1..=256).contains(&posts)
+        && usize::from(buses) * row_len(posts) <= len
 }
 
 // How the pair of a post stands, in the row of its bus.
-fn read_cell(row: &[u8], post: u16) -> Standing
+fn read_cell(row: &[u8], post: u16) -> Option<Side>
     requires { post / 4 < length row.now }
     ensures { result ≡ cell_means row.now (2 * post) }
 {
-    let cell = (row[post as usize / 4] >> (6 - 2 * (post % 4))) % 4;
+    let cell = (row[usize::from(post / 4)] >> (6 - 2 * (post % 4))) % 4;
+    // What `_` would leave of a number has no name that a proof could cite, so these are tests and no `match`.
     if cell < 2 {
-        Standing::Absent
+        None
     } else if cell == 2 {
-        Standing::Bus
+        Some(Side::Bus)
     } else {
-        Standing::Post
+        Some(Side::Post)
     }
 }
 
 // The two bits of a cell, as a number.
-fn cell_bits(standing: Standing) -> u8
+fn cell_bits(standing: Option<Side>) -> u8
     ensures { result ≡ 2 * bit (stands standing) + bit (by_post standing) }
 {
     match standing {
-        Standing::Absent => 0,
-        Standing::Bus => 2,
-        Standing::Post => 3,
+        None => 0,
+        Some(Side::Bus) => 2,
+        Some(Side::Post) => 3,
     }
 }
 
 // A byte with the cell of a post written.
-fn with_cell(byte: u8, post: u16, standing: Standing) -> u8
+fn with_cell(byte: u8, post: u16, standing: Option<Side>) -> u8
     ensures { ByteWritten byte result (post % 4) standing }
 {
     let shift = 6 - 2 * (post % 4);
@@ -133,23 +105,13 @@ fn with_cell(byte: u8, post: u16, standing: Standing) -> u8
 }
 
 // Writes the cell of a pair.
-fn write_cell<M: Memory>(memory: &mut M, posts: u16, bus: u16, post: u16, standing: Standing)
-    requires { bus * row posts + post / 4 < length (M.Memory.bytes memory.old) }
-    ensures { CellWritten (M.Memory.bytes memory.old) (M.Memory.bytes memory.new) (cell_at posts bus post) standing }
+fn write_cell<M: Memory>(memory: &mut M, posts: u16, pair: Pair, standing: Option<Side>)
+    requires { pair.bus * row posts + pair.post / 4 < length (M.items memory.old) }
+    ensures { CellWritten (M.items memory.old) (M.items memory.new) (cell_at posts pair.bus pair.post) standing }
 {
-    let at = bus as usize * row_len(posts) + post as usize / 4;
-    let byte = with_cell(memory.bytes()[at], post, standing);
+    let at = usize::from(pair.bus) * row_len(posts) + usize::from(pair.post / 4);
+    let byte = with_cell(memory.as_slice()[at], pair.post, standing);
     memory.put(at, byte);
-}
-
-// What a pair counts for.
-fn counted(standing: Standing) -> usize
-    ensures { result ≡ bit (stands standing) }
-{
-    match standing {
-        Standing::Absent => 0,
-        Standing::Bus | Standing::Post => 1,
-    }
 }
 
 // How many pairs of a row stand.
@@ -157,21 +119,10 @@ fn standing_in(row: &[u8], posts: u16) -> usize
     requires { posts ≤ 4 * length row.now }
     ensures { result ≡ sum posts (λ p. bit (stands (cell_means row.now (2 * p)))) }
 {
+    // Loops here and in `room`: `sum` would require a bound, which only their invariants give.
     let mut count = 0;
     for post in 0..posts {
-        count += counted(read_cell(row, post));
-    }
-    count
-}
-
-// How many pairs of all the rows stand.
-fn standing_pairs(bytes: &[u8], buses: u16, posts: u16) -> usize
-    requires { buses * row posts ≤ length bytes.now }
-    ensures { result ≡ standing_count (rows_mean bytes.now buses posts) }
-{
-    let mut count = 0;
-    for bus in 0..buses {
-        count += standing_in(row_of(bytes, posts, bus), posts);
+        count += usize::from(read_cell(row, post).is_some());
     }
     count
 }
@@ -179,8 +130,13 @@ fn standing_pairs(bytes: &[u8], buses: u16, posts: u16) -> usize
 impl<M: Memory> Grid<M> {
     pub fn over(memory: M, buses: u16, posts: u16) -> Grid<M>
         ensures keeps { result.memory ≡ memory }
-        ensures opened { Opened (M.Memory.bytes memory) buses posts (grid_means (M.Memory.bytes result.memory) result.buses result.posts) }
+        ensures opened { Opened (M.items memory) buses posts (⟦<Grid<M> as View>⟧.means result) }
     {
+        let (buses, posts) = if fits(memory.as_slice().len(), buses, posts) {
+            (buses, posts)
+        } else {
+            (0, 0)
+        };
         Grid {
             memory,
             buses,
@@ -196,89 +152,89 @@ impl<M: Memory> Grid<M> {
         memory
     }
 
-    // The sizes: none of a void grid.
-    fn shape(&self) -> (u16, u16)
-        ensures buses { result.0 ≡ sized (length (M.Memory.bytes self.now.memory)) self.now.buses self.now.posts self.now.buses }
-        ensures posts { result.1 ≡ sized (length (M.Memory.bytes self.now.memory)) self.now.buses self.now.posts self.now.posts }
-        ensures small { (result.0 ≤ 256) × (result.1 ≤ 256) }
-        ensures fits { result.0 * row result.1 ≤ length (M.Memory.bytes self.now.memory) }
+    // The row of a bus, lent to the reader of its cells.
+    fn row(&self, bus: u16) -> &[u8]
+        requires { bus < self.now.buses }
+        ensures part { result.now ≡ row_part (M.items self.now.memory) self.now.posts bus }
+        ensures len { length result.now ≡ row self.now.posts }
     {
-        if fits(self.memory.bytes().len(), self.buses, self.posts) {
-            (self.buses, self.posts)
-        } else {
-            (0, 0)
-        }
+        let len = row_len(self.posts);
+        let start = usize::from(bus) * len;
+        &self.memory.as_slice()[start..start + len]
+    }
+
+    // Puts a pair on a side, or on none.
+    fn write(&mut self, pair: Pair, standing: Option<Side>)
+        requires { (pair.bus < self.old.buses) × (pair.post < self.old.posts) }
+        ensures sizes { (self.new.buses ≡ self.old.buses) × (self.new.posts ≡ self.old.posts) }
+        ensures cell { CellWritten (M.items self.old.memory) (M.items self.new.memory) (cell_at self.old.posts pair.bus pair.post) standing }
+        ensures means { ⟦<Grid<M> as View>⟧.means self.new ≡ put pair.bus pair.post standing (⟦<Grid<M> as View>⟧.means self.old) }
+        ensures room { ⟦<Grid<M> as Store>⟧.room self.new + bit (stands standing) ≡ ⟦<Grid<M> as Store>⟧.room self.old + bit (stands ((⟦<Grid<M> as View>⟧.means self.old).standing pair.bus pair.post)) }
+    {
+        write_cell(&mut self.memory, self.posts, pair, standing);
     }
 }
 
 impl<M: Memory> View for Grid<M> {
-    ghost means = { λ g. grid_means (M.Memory.bytes g.memory) g.buses g.posts };
+    ghost means = { λ g. rows_mean (M.items g.memory) g.buses g.posts };
 
-    ghost bounded = { λ s. grid_bounded (M.Memory.bytes s.memory) s.buses s.posts };
+    ghost bounded = { λ g. rows_bounded (M.items g.memory) g.buses g.posts g.few_buses g.few_posts };
 
     fn buses(&self) -> u16 {
-        self.shape().0
+        self.buses
     }
 
     fn posts(&self) -> u16 {
-        self.shape().1
+        self.posts
     }
 
-    fn stands(&self, bus: u16, post: u16) -> Result<Standing, StoreFault> {
-        let (buses, posts) = self.shape();
-        if bus >= buses {
-            return Err(StoreFault::NoBus { bus, post });
-        }
-        if post >= posts {
-            return Err(StoreFault::NoPost { bus, post });
-        }
-        Ok(read_cell(row_of(self.memory.bytes(), posts, bus), post))
+    fn stands(&self, pair: Pair) -> Result<Option<Side>, StoreFault> {
+        self.admit(pair)?;
+        Ok(read_cell(self.row(pair.bus), pair.post))
     }
 }
 
 impl<M: Memory> Store for Grid<M> {
-    ghost room = { λ g. grid_room (grid_means (M.Memory.bytes g.memory) g.buses g.posts) };
+    ghost room = { λ g. grid_room (rows_mean (M.items g.memory) g.buses g.posts) };
 
-    fn add(&mut self, bus: u16, post: u16, side: Side) -> Result<(), StoreFault>
-        ensures does { Added (grid_means (M.Memory.bytes self.old.memory) self.old.buses self.old.posts) (grid_means (M.Memory.bytes self.new.memory) self.new.buses self.new.posts) (grid_room (grid_means (M.Memory.bytes self.old.memory) self.old.buses self.old.posts)) (grid_room (grid_means (M.Memory.bytes self.new.memory) self.new.buses self.new.posts)) bus post side result }
-        ensures cells { BytesAfter (M.Memory.bytes self.old.memory) (M.Memory.bytes self.new.memory) (cell_at (grid_means (M.Memory.bytes self.old.memory) self.old.buses self.old.posts).posts bus post) (carried side) result }
+    fn add(&mut self, pair: Pair, side: Side) -> Result<(), StoreFault>
+        ensures does { Added (⟦<Grid<M> as View>⟧.means self.old) (⟦<Grid<M> as View>⟧.means self.new) (⟦<Grid<M> as Store>⟧.room self.old) (⟦<Grid<M> as Store>⟧.room self.new) pair.bus pair.post side result }
+        ensures cells { BytesAfter (M.items self.old.memory) (M.items self.new.memory) (cell_at self.old.posts pair.bus pair.post) (carried side) result }
     {
-        let Standing::Absent = self.stands(bus, post)? else {
-            return Err(StoreFault::Stands { bus, post });
+        if self.stands(pair)?.is_some() {
+            return Err(StoreFault::Stands(pair));
+        }
+        self.write(pair, Some(side));
+        Ok(())
+    }
+
+    fn drop(&mut self, pair: Pair) -> Result<(), StoreFault>
+        ensures does { Dropped (⟦<Grid<M> as View>⟧.means self.old) (⟦<Grid<M> as View>⟧.means self.new) (⟦<Grid<M> as Store>⟧.room self.old) (⟦<Grid<M> as Store>⟧.room self.new) pair.bus pair.post result }
+        ensures cells { BytesAfter (M.items self.old.memory) (M.items self.new.memory) (cell_at self.old.posts pair.bus pair.post) None result }
+    {
+        if self.stands(pair)?.is_none() {
+            return Err(StoreFault::Absent(pair));
+        }
+        self.write(pair, None);
+        Ok(())
+    }
+
+    fn turn(&mut self, pair: Pair) -> Result<(), StoreFault>
+        ensures does { Turned (⟦<Grid<M> as View>⟧.means self.old) (⟦<Grid<M> as View>⟧.means self.new) (⟦<Grid<M> as Store>⟧.room self.old) (⟦<Grid<M> as Store>⟧.room self.new) pair.bus pair.post result }
+        ensures cells { BytesAfter (M.items self.old.memory) (M.items self.new.memory) (cell_at self.old.posts pair.bus pair.post) (other ((⟦<Grid<M> as View>⟧.means self.old).standing pair.bus pair.post)) result }
+    {
+        let Some(side) = self.stands(pair)? else {
+            return Err(StoreFault::Absent(pair));
         };
-        let posts = self.posts();
-        write_cell(&mut self.memory, posts, bus, post, carried_by(side));
-        Ok(())
-    }
-
-    fn drop(&mut self, bus: u16, post: u16) -> Result<(), StoreFault>
-        ensures does { Dropped (grid_means (M.Memory.bytes self.old.memory) self.old.buses self.old.posts) (grid_means (M.Memory.bytes self.new.memory) self.new.buses self.new.posts) (grid_room (grid_means (M.Memory.bytes self.old.memory) self.old.buses self.old.posts)) (grid_room (grid_means (M.Memory.bytes self.new.memory) self.new.buses self.new.posts)) bus post result }
-        ensures cells { BytesAfter (M.Memory.bytes self.old.memory) (M.Memory.bytes self.new.memory) (cell_at (grid_means (M.Memory.bytes self.old.memory) self.old.buses self.old.posts).posts bus post) Standing.Absent result }
-    {
-        let standing = self.stands(bus, post)?;
-        if let Standing::Absent = standing {
-            return Err(StoreFault::Absent { bus, post });
-        }
-        let posts = self.posts();
-        write_cell(&mut self.memory, posts, bus, post, Standing::Absent);
-        Ok(())
-    }
-
-    fn turn(&mut self, bus: u16, post: u16) -> Result<(), StoreFault>
-        ensures does { Turned (grid_means (M.Memory.bytes self.old.memory) self.old.buses self.old.posts) (grid_means (M.Memory.bytes self.new.memory) self.new.buses self.new.posts) (grid_room (grid_means (M.Memory.bytes self.old.memory) self.old.buses self.old.posts)) (grid_room (grid_means (M.Memory.bytes self.new.memory) self.new.buses self.new.posts)) bus post result }
-        ensures cells { BytesAfter (M.Memory.bytes self.old.memory) (M.Memory.bytes self.new.memory) (cell_at (grid_means (M.Memory.bytes self.old.memory) self.old.buses self.old.posts).posts bus post) (other ((grid_means (M.Memory.bytes self.old.memory) self.old.buses self.old.posts).standing bus post)) result }
-    {
-        let standing = self.stands(bus, post)?;
-        if let Standing::Absent = standing {
-            return Err(StoreFault::Absent { bus, post });
-        }
-        let posts = self.posts();
-        write_cell(&mut self.memory, posts, bus, post, other_end(standing));
+        self.write(pair, Some(side.opposite()));
         Ok(())
     }
 
     fn room(&self) -> usize {
-        let (buses, posts) = self.shape();
-        buses as usize * posts as usize - standing_pairs(self.memory.bytes(), buses, posts)
+        let mut count = 0;
+        for bus in 0..self.buses {
+            count += standing_in(self.row(bus), self.posts);
+        }
+        usize::from(self.buses) * usize::from(self.posts) - count
     }
 }

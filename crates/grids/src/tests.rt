@@ -1,7 +1,7 @@
-use crate::{Grid, Lent, Owned};
+use crate::Grid;
 use std::process::Abort;
 use stores::faults::StoreFault;
-use stores::pairs::{Side, Standing};
+use stores::pairs::{Pair, Side};
 use stores::plans::assign;
 use stores::swaps::Swap;
 use stores::views::{Store, View};
@@ -9,12 +9,12 @@ use stores::views::{Store, View};
 // No buses, no posts, no room: every call is refused for want of a bus, and the bytes stay.
 fn is_void(rt: &impl Abort, buses: u16, posts: u16) {
     let mut bytes = [0x9cu8; 3];
-    let mut grid = Grid::over(Lent(&mut bytes), buses, posts);
+    let mut grid = Grid::over(&mut bytes[..], buses, posts);
     assert_eq!(rt; (grid.buses(), grid.posts(), grid.room()), (0, 0, 0));
-    let none = Err(StoreFault::NoBus { bus: 0, post: 0 });
-    assert_eq!(rt; grid.add(0, 0, Side::Bus), none);
-    assert_eq!(rt; grid.drop(0, 0), none);
-    assert_eq!(rt; grid.turn(0, 0), none);
+    let none = Err(StoreFault::NoBus(Pair::new(0, 0)));
+    assert_eq!(rt; grid.add(Pair::new(0, 0), Side::Bus), none);
+    assert_eq!(rt; grid.drop(Pair::new(0, 0)), none);
+    assert_eq!(rt; grid.turn(Pair::new(0, 0)), none);
     assert_eq!(rt; bytes, [0x9c; 3]);
 }
 
@@ -31,23 +31,23 @@ fn void(rt: HostRuntime) {
 // The low bit of an absent pair is garbage, as are the bits beyond the one cell.
 #[test]
 fn one_cell(rt: HostRuntime) {
-    let mut grid = Grid::over(Owned([0x7fu8]), 1, 1);
+    let mut grid = Grid::over([0x7fu8], 1, 1);
     assert_eq!(rt; grid.room(), 1);
-    assert_eq!(rt; grid.stands(0, 0), Ok(Standing::Absent));
-    assert_eq!(rt; grid.add(0, 0, Side::Bus), Ok(()));
+    assert_eq!(rt; grid.stands(Pair::new(0, 0)), Ok(None));
+    assert_eq!(rt; grid.add(Pair::new(0, 0), Side::Bus), Ok(()));
     assert_eq!(rt;
-        grid.add(0, 0, Side::Bus),
-        Err(StoreFault::Stands { bus: 0, post: 0 })
+        grid.add(Pair::new(0, 0), Side::Bus),
+        Err(StoreFault::Stands(Pair::new(0, 0)))
     );
     assert_eq!(rt; grid.room(), 0);
-    assert_eq!(rt; grid.turn(0, 0), Ok(()));
-    assert_eq!(rt; grid.stands(0, 0), Ok(Standing::Post));
-    assert_eq!(rt; grid.drop(0, 0), Ok(()));
+    assert_eq!(rt; grid.turn(Pair::new(0, 0)), Ok(()));
+    assert_eq!(rt; grid.stands(Pair::new(0, 0)), Ok(Some(Side::Post)));
+    assert_eq!(rt; grid.drop(Pair::new(0, 0)), Ok(()));
     assert_eq!(rt;
-        grid.drop(0, 0),
-        Err(StoreFault::Absent { bus: 0, post: 0 })
+        grid.drop(Pair::new(0, 0)),
+        Err(StoreFault::Absent(Pair::new(0, 0)))
     );
-    let Owned(bytes) = grid.into_memory();
+    let bytes = grid.into_memory();
     assert_eq!(rt; bytes, [0x3f]);
 }
 
@@ -55,13 +55,13 @@ fn one_cell(rt: HostRuntime) {
 #[test]
 fn spare_bits(rt: HostRuntime) {
     let mut bytes = [0x00, 0x3f, 0x05, 0x2a, 0xff];
-    let mut grid = Grid::over(Lent(&mut bytes), 2, 5);
+    let mut grid = Grid::over(&mut bytes[..], 2, 5);
     assert_eq!(rt; grid.room(), 10);
-    assert_eq!(rt; grid.add(1, 4, Side::Post), Ok(()));
-    assert_eq!(rt; grid.add(0, 1, Side::Bus), Ok(()));
+    assert_eq!(rt; grid.add(Pair::new(1, 4), Side::Post), Ok(()));
+    assert_eq!(rt; grid.add(Pair::new(0, 1), Side::Bus), Ok(()));
     assert_eq!(rt;
-        grid.stands(1, 5),
-        Err(StoreFault::NoPost { bus: 1, post: 5 })
+        grid.stands(Pair::new(1, 5)),
+        Err(StoreFault::NoPost(Pair::new(1, 5)))
     );
     assert_eq!(rt; grid.room(), 8);
     assert_eq!(rt; bytes, [0x20, 0x3f, 0x05, 0xea, 0xff]);
@@ -69,32 +69,35 @@ fn spare_bits(rt: HostRuntime) {
 
 #[test]
 fn largest(rt: HostRuntime) {
-    let mut grid = Grid::over(Owned([0u8; 16384]), 256, 256);
+    let mut grid = Grid::over([0u8; 16384], 256, 256);
     assert_eq!(rt; grid.room(), 65536);
-    assert_eq!(rt; grid.add(255, 255, Side::Post), Ok(()));
+    assert_eq!(rt; grid.add(Pair::new(255, 255), Side::Post), Ok(()));
     assert_eq!(rt; grid.room(), 65535);
-    let Owned(bytes) = grid.into_memory();
+    let bytes = grid.into_memory();
     assert_eq!(rt; bytes[16383], 3);
 }
 
 // A swap names its own bus first, and its own numbers.
 #[test]
 fn other_way_round(rt: HostRuntime) {
-    let mut swap = Swap::over(Grid::over(Owned([0u8; 2]), 2, 3));
+    let mut swap = Swap::over(Grid::over([0u8; 2], 2, 3));
     assert_eq!(rt; (swap.buses(), swap.posts()), (3, 2));
     assert_eq!(rt;
-        swap.stands(3, 2),
-        Err(StoreFault::NoBus { bus: 3, post: 2 })
+        swap.stands(Pair::new(3, 2)),
+        Err(StoreFault::NoBus(Pair::new(3, 2)))
     );
     assert_eq!(rt;
-        swap.drop(2, 2),
-        Err(StoreFault::NoPost { bus: 2, post: 2 })
+        swap.drop(Pair::new(2, 2)),
+        Err(StoreFault::NoPost(Pair::new(2, 2)))
     );
     assert_eq!(rt;
-        swap.turn(2, 1),
-        Err(StoreFault::Absent { bus: 2, post: 1 })
+        swap.turn(Pair::new(2, 1)),
+        Err(StoreFault::Absent(Pair::new(2, 1)))
     );
-    assert_eq!(rt; assign(&mut swap, 2, 1, Standing::Bus), Ok(5));
-    assert_eq!(rt; assign(&mut swap, 2, 1, Standing::Bus), Ok(5));
-    assert_eq!(rt; swap.into_inner().stands(1, 2), Ok(Standing::Post));
+    assert_eq!(rt; assign(&mut swap, Pair::new(2, 1), Some(Side::Bus)), Ok(5));
+    assert_eq!(rt; assign(&mut swap, Pair::new(2, 1), Some(Side::Bus)), Ok(5));
+    assert_eq!(rt;
+        swap.into_inner().stands(Pair::new(1, 2)),
+        Ok(Some(Side::Post))
+    );
 }

@@ -1,68 +1,58 @@
--- What a roll means: by its entries, kept strictly ascending by bus, then post.
-use Rattle.std.specs.Prelude.{◌≡◌, ℕ, ◌+◌, ◌*◌, ◌<◌, ◌≤◌, min, Bool, cond, ◌&&◌, List, [], ◌∷◌, length, get_or, Ok, Err, Result, ◌==◌, slice_index_or}
-use Rattle.stores.specs.declared.faults.StoreFault.{StoreFault}
-use Rattle.stores.specs.declared.faults.StoreFault.TheVariants.{NoBus, NoPost}
-use Rattle.stores.specs.declared.pairs.Standing.{Standing}
-use Rattle.stores.specs.declared.pairs.Standing.TheVariants.{Absent}
-use Rattle.stores.specs.declared.pairs.Side.TheVariants.{Bus}
+-- What a roll means: by its entries, kept in strictly ascending order of their pairs.
+use Rattle.std.specs.Prelude.{◌≡◌, ℕ, ◌<◌, ◌≤◌, min, Bool, cond, ◌&&◌, List, [], ◌∷◌, length, None, Option, Ok, Err, Result, ◌==◌}
+use Rattle.std.specs.List.{All, AllPairs, HoldsAt}
+use Rattle.std.specs.List.Sorted.{IsPartitionPoint}
+use Rattle.std.specs.Ordering.{nat_cmp, ordering_then}
+use Rattle.std.specs.declared.cmp.Ordering.{Ordering}
+use Rattle.std.specs.declared.cmp.Ordering.TheVariants.{Less, Greater}
+use Rattle.stores.specs.declared.pairs.Pair.{Pair}
+use Rattle.stores.specs.declared.pairs.Side.{Side}
 use Rattle.rolls.specs.declared.Entry.{Entry}
 use Rattle.stores.specs.Meaning.{Meaning, empty, carried}
 
--- the order of pairs: by bus, then post, since a post is below 65,536
-abbrev pub key : ℕ → ℕ → ℕ
-key b p = b * 65536 + p
+-- the order of pairs: by bus, then post
+abbrev pub pair_cmp : Pair → Pair → Ordering
+pair_cmp x y = ordering_then (nat_cmp x.bus y.bus) (nat_cmp x.post y.post)
 
-abbrev pub key_of : Entry → ℕ
-key_of e = key e.bus e.post
-
--- what is read past the end of a list
-abbrev pub blank : Entry
-blank = record { bus = 0; post = 0; side = Bus }
+-- the pair of the one entry comes before that of the other
+abbrev pub Precedes : Entry → Entry → Type 0
+Precedes x y = pair_cmp x.pair y.pair ≡ Less
 
 -- strictly ascending
 abbrev pub Ascending : List Entry → Type 0
-Ascending xs = (i j : ℕ) → i < j → j < length xs → key_of (slice_index_or xs i blank) < key_of (slice_index_or xs j blank)
+Ascending = AllPairs Precedes
 
--- every bus and every post is within the sizes
+-- the bus and the post are within the sizes
+abbrev pub Within : ℕ → ℕ → Entry → Type 0
+Within buses posts e = (e.pair.bus < buses) × (e.pair.post < posts)
+
+-- so is every entry's
 abbrev pub Inside : List Entry → ℕ → ℕ → Type 0
-Inside xs buses posts = (i : ℕ) → i < length xs → ((get_or xs i blank).bus < buses) × ((get_or xs i blank).post < posts)
+Inside xs buses posts = All (Within buses posts) xs
 
--- is the entry this pair's
-abbrev pub names : Entry → ℕ → ℕ → Bool
-names e b p = b == e.bus && p == e.post
+-- is this the pair of that bus and post
+abbrev pub names : Pair → ℕ → ℕ → Bool
+names q b p = b == q.bus && p == q.post
 
--- how a pair stands: as the entry says that has its bus and post, and Absent where none has
-unfoldable pub standing : List Entry → ℕ → ℕ → Standing
-standing [] b p = Absent
-standing (e ∷ es) b p = cond (names e b p) (carried e.side) (standing es b p)
-
--- the sizes are asked before anything else
-pub record Admitted (buses posts b p : ℕ) (r : Result (Unit {0}) StoreFault) : Type 0 where
-  pub no_bus : buses ≤ b → r ≡ Err (NoBus b p)
-  pub no_post : b < buses → posts ≤ p → r ≡ Err (NoPost b p)
-  pub goes_on : b < buses → p < posts → r ≡ Ok tt
-
--- how many entries come before a pair, in a list that ascends
-pub record Before (xs : List Entry) (b p n : ℕ) : Type 0 where
-  pub within : n ≤ length xs
-  pub below : (k : ℕ) → k < n → key_of (slice_index_or xs k blank) < key b p
-  pub rest : (k : ℕ) → n ≤ k → k < length xs → key b p ≤ key_of (slice_index_or xs k blank)
+-- how a pair stands: as the entry says that has its bus and post, and absent where none has
+unfoldable pub standing : List Entry → ℕ → ℕ → Option Side
+standing [] b p = None
+standing (e ∷ es) b p = cond (names e.pair b p) (carried e.side) (standing es b p)
 
 -- the place of a pair's entry
-pub record Here (xs : List Entry) (b p i : ℕ) : Type 0 where
+pub record Here (xs : List Entry) (q : Pair) (i : ℕ) : Type 0 where
   pub within : i < length xs
-  pub same : key_of (slice_index_or xs i blank) ≡ key b p
+  pub same : HoldsAt (λ e. e.pair ≡ q) xs i
 
 -- the place where a pair's entry would go, as there is none
-pub record Gap (xs : List Entry) (b p i : ℕ) : Type 0 where
+pub record Gap (xs : List Entry) (q : Pair) (i : ℕ) : Type 0 where
   pub within : i ≤ length xs
-  pub below : (k : ℕ) → k < i → key_of (slice_index_or xs k blank) < key b p
-  pub above : (k : ℕ) → i ≤ k → k < length xs → key b p < key_of (slice_index_or xs k blank)
+  pub parts : IsPartitionPoint (λ e. pair_cmp e.pair q ≡ Less) (λ e. pair_cmp e.pair q ≡ Greater) xs i
 
 -- a search answers the one or the other
-abbrev pub Found : List Entry → ℕ → ℕ → Result ℕ ℕ → Type 0
-Found xs b p (Ok i) = Here xs b p i
-Found xs b p (Err i) = Gap xs b p i
+abbrev pub Found : List Entry → Pair → Result ℕ ℕ → Type 0
+Found xs q (Ok i) = Here xs q i
+Found xs q (Err i) = Gap xs q i
 
 -- what a list of entries means, of these sizes
 abbrev pub meaning : List Entry → ℕ → ℕ → Meaning

@@ -1,12 +1,14 @@
 // Limit rules: one limit for all, or rates read from a sheet.
 #![tactic(auto)]
 
-ghost use Rattle.std.specs.Prelude.{◌≡◌, ℕ, ◌≤◌, List, length};
+ghost use Rattle.std.specs.Prelude.{◌≡◌, ◌≤◌};
 ghost use Rattle.blocks.specs.Limits.{Limits, Lawful};
-ghost use Rattle.rules.specs.Rated.{rated, ByteAt, WordAt, SheetChecked};
+ghost use Rattle.rules.specs.Rated.{rated, WordAt, SheetChecked};
 ghost use Rattle.rules.specs.Rules.{flat, Lowest};
 ghost use Rattle.std.proofs.Common.{rules};
 ghost use Rattle.rules.specs.Rates.{rated_lawful};
+
+use std::convert::AsSlice;
 
 // A limit rule. What it says is fixed: asking changes nothing.
 pub trait Rule {
@@ -22,7 +24,7 @@ pub trait Rule {
 }
 
 // One limit for all buses; a post's limit is the level.
-#[derive(Clone, Copy)]
+#[derive(Clone, Copy, PartialEq, Eq, Debug)]
 pub struct Flat {
     limit: u8,
     ghost small: { limit ≤ 255 },
@@ -50,66 +52,6 @@ impl Rule for Flat {
     }
 }
 
-// A sheet of bytes, behind a trait, so that a rule over it has no lifetime of its own.
-pub trait Sheet {
-    ghost bytes: { Self → List ℕ };
-
-    fn len(&self) -> usize
-        ensures { result ≡ length (bytes self.now) };
-
-    fn byte(&self, at: usize) -> Option<u8>
-        ensures { ByteAt (bytes self.now) at result };
-}
-
-// The byte at a place, if the sheet reaches that far.
-fn byte_at(sheet: &[u8], at: usize) -> Option<u8>
-    ensures { ByteAt sheet.now at result }
-{
-    if at >= sheet.len() {
-        return None;
-    }
-    let found = sheet[at];
-    Some(found)
-}
-
-fn length_of(sheet: &[u8]) -> usize
-    ensures { result ≡ length sheet.now }
-{
-    sheet.len()
-}
-
-// A sheet that its owner lends.
-#[derive(Clone, Copy)]
-pub struct LentSheet<'a>(pub &'a [u8]);
-
-impl Sheet for LentSheet<'_> {
-    ghost bytes = { λ s. s.0.now };
-
-    fn len(&self) -> usize {
-        self.0.len()
-    }
-
-    fn byte(&self, at: usize) -> Option<u8> {
-        byte_at(self.0, at)
-    }
-}
-
-// A sheet that the rule keeps.
-#[derive(Clone, Copy)]
-pub struct OwnedSheet<const N: usize>(pub [u8; N]);
-
-impl<const N: usize> Sheet for OwnedSheet<N> {
-    ghost bytes = { λ s. s.0 };
-
-    fn len(&self) -> usize {
-        length_of(&self.0)
-    }
-
-    fn byte(&self, at: usize) -> Option<u8> {
-        byte_at(&self.0, at)
-    }
-}
-
 // Why a sheet does not fit its sizes: what was found. The numbers are in specs/Rated.
 #[derive(Clone, Copy, PartialEq, Eq, Debug)]
 pub enum SheetFault {
@@ -119,15 +61,15 @@ pub enum SheetFault {
     NoStep { post: u16 },
 }
 
-// Limits read from a sheet.
-#[derive(Clone, Copy)]
+// Limits read from a sheet of bytes, lent or owned.
+#[derive(Clone, Copy, PartialEq, Eq, Debug)]
 pub struct Rated<S> {
     sheet: S,
     buses: u16,
     posts: u16,
 }
 
-impl<S: Sheet> Rated<S> {
+impl<S: AsSlice<u8>> Rated<S> {
     pub fn new(sheet: S, buses: u16, posts: u16) -> Rated<S>
         ensures { (result.sheet ≡ sheet) × (result.buses ≡ buses) × (result.posts ≡ posts) }
     {
@@ -140,62 +82,59 @@ impl<S: Sheet> Rated<S> {
 
     // Does the sheet fit its sizes, with a step for each post?
     pub fn check(&self) -> Result<(), SheetFault>
-        ensures { SheetChecked (S.Sheet.bytes self.now.sheet) self.now.buses self.now.posts result }
+        ensures { SheetChecked (S.items self.now.sheet) self.now.buses self.now.posts result }
     {
-        let length = self.sheet.len();
+        let length = self.sheet.as_slice().len();
         if length != usize::from(self.buses) + 2 * usize::from(self.posts) {
             return Err(SheetFault::WrongLength { length });
         }
-        for post in 0..self.posts {
-            if let Some(word) = self.word(post)
-                && word % 64 == 0
-            {
-                return Err(SheetFault::NoStep { post });
-            }
-        }
-        Ok(())
+        (0..self.posts)
+            .find(|&post| self.word(post).is_some_and(|word| word % 64 == 0))
+            .map_or(Ok(()), |post| Err(SheetFault::NoStep { post }))
     }
 
-    // The two bytes of a post, if it is one of the rule's and the sheet has both.
+    // The two bytes of a post, the most significant first, if it is one of the rule's and the sheet has both.
     fn word(&self, post: u16) -> Option<u16>
-        ensures { WordAt (S.Sheet.bytes self.now.sheet) self.now.buses self.now.posts post result }
+        ensures { WordAt (S.items self.now.sheet) self.now.buses self.now.posts post result }
     {
         if post >= self.posts {
             return None;
         }
         let at = usize::from(self.buses) + 2 * usize::from(post);
-        let high = self.sheet.byte(at)?;
-        let low = self.sheet.byte(at + 1)?;
-        Some(u16::from(high) * 256 + u16::from(low))
+        match self.sheet.as_slice().get(at..)? {
+            &[high, low, ..] => Some(u16::from_be_bytes([high, low])),
+            _ => None,
+        }
     }
 }
 
-impl<S: Sheet> Rule for Rated<S> {
-    ghost limits = { λ r. rated (S.Sheet.bytes r.sheet) r.buses r.posts };
+impl<S: AsSlice<u8>> Rule for Rated<S> {
+    ghost limits = { λ r. rated (S.items r.sheet) r.buses r.posts };
 
-    ghost lawful = { λ r. rated_lawful (S.Sheet.bytes r.sheet) r.buses r.posts };
+    ghost lawful = { λ r. rated_lawful (S.items r.sheet) r.buses r.posts };
 
     fn bus_limit(&self, bus: u16) -> u32 {
         if bus >= self.buses {
             return 0;
         }
-        match self.sheet.byte(usize::from(bus)) {
-            Some(limit) => u32::from(limit),
-            None => 0,
-        }
+        self.sheet
+            .as_slice()
+            .get(usize::from(bus))
+            .copied()
+            .map_or(0, u32::from)
     }
 
     fn post_limit(&self, post: u16, level: u16) -> u32 {
-        match self.word(post) {
-            Some(word) => u32::from(word / 64) + u32::from(word % 64).max(1) * u32::from(level),
-            None => u32::from(level),
-        }
+        // The word 0 has what a post that is not listed has: start 0, and step 0, which counts as 1.
+        let word = self.word(post).unwrap_or(0);
+        u32::from(word / 64) + u32::from(word % 64).max(1) * u32::from(level)
     }
 }
 
 // The lowest level, 0 to 256, at which the post's limit is at least `need`. Limits rise with the level, so halving finds it.
+// std halves over lists alone (`partition_point`), and here each level's limit is computed, so the loop stands here.
 pub fn lowest_level<R: Rule>(rule: &R, post: u16, need: u32) -> Option<u16>
-    ensures { Lowest (R.Rule.limits rule.now) post need result }
+    ensures { Lowest (R.limits rule.now) post need result }
 {
     if rule.post_limit(post, 256) < need {
         return None;
@@ -229,24 +168,24 @@ mod tests {
 
     #[test]
     fn rated_limits(rt: HostRuntime) {
-        let rule = Rated::new(LentSheet(&SHEET), 2, 3);
+        let rule = Rated::new(&SHEET[..], 2, 3);
         assert_eq!(rt; rule.bus_limit(0), 200);
         assert_eq!(rt; rule.bus_limit(2), 0);
         assert_eq!(rt; rule.post_limit(0, 10), 35);
         assert_eq!(rt; rule.post_limit(1, 10), 10);
         assert_eq!(rt; rule.post_limit(2, 10), 10, "half a post");
-        assert_eq!(rt; Rated::new(LentSheet(&SHEET), 2, 0).post_limit(0, 10), 10);
-        assert_eq!(rt; Rated::new(OwnedSheet(SHEET), 60000, 3).bus_limit(59999), 0);
+        assert_eq!(rt; Rated::new(&SHEET[..], 2, 0).post_limit(0, 10), 10);
+        assert_eq!(rt; Rated::new(SHEET, 60000, 3).bus_limit(59999), 0);
         assert_eq!(rt; lowest_level(&rule, 0, 36), Some(11));
         assert_eq!(rt; lowest_level(&rule, 0, 5 + 3 * 256 + 1), None);
     }
 
     #[test]
     fn length_before_step(rt: HostRuntime) {
-        let short = Rated::new(LentSheet(&SHEET), 2, 3);
+        let short = Rated::new(&SHEET[..], 2, 3);
         assert_eq!(rt; short.check(), Err(SheetFault::WrongLength { length: 7 }));
-        let flat = Rated::new(LentSheet(&SHEET[0..6]), 2, 2);
+        let flat = Rated::new(&SHEET[0..6], 2, 2);
         assert_eq!(rt; flat.check(), Err(SheetFault::NoStep { post: 1 }));
-        assert_eq!(rt; Rated::new(LentSheet(&SHEET[0..4]), 2, 1).check(), Ok(()));
+        assert_eq!(rt; Rated::new(&SHEET[0..4], 2, 1).check(), Ok(()));
     }
 }

@@ -1,14 +1,34 @@
-// Why a store refuses a call. Each case holds the bus and the post that were named to that store; the numbers are in specs/Faults.
+ghost use Rattle.std.specs.Prelude.{◌≡◌};
+ghost use Rattle.stores.specs.Faults.{named_pair};
+
+use crate::pairs::Pair;
+
+// Why a store refuses a call. Each case holds the pair that was named to that store; the numbers are in specs/Faults.
 #[derive(Clone, Copy, PartialEq, Eq, Debug)]
 pub enum StoreFault {
     // 11: no such bus
-    NoBus { bus: u16, post: u16 },
+    NoBus(Pair),
     // 12: no such post
-    NoPost { bus: u16, post: u16 },
+    NoPost(Pair),
     // 13: the pair stands already
-    Stands { bus: u16, post: u16 },
+    Stands(Pair),
     // 14: the pair does not stand
-    Absent { bus: u16, post: u16 },
+    Absent(Pair),
     // 15: no room
-    Full { bus: u16, post: u16 },
+    Full(Pair),
+}
+
+impl StoreFault {
+    // The pair that was named.
+    pub fn pair(self) -> Pair
+        ensures { result ≡ named_pair self }
+    {
+        match self {
+            StoreFault::NoBus(pair)
+            | StoreFault::NoPost(pair)
+            | StoreFault::Stands(pair)
+            | StoreFault::Absent(pair)
+            | StoreFault::Full(pair) => pair,
+        }
+    }
 }

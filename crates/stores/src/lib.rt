@@ -4,6 +4,5 @@
 pub mod faults;
 pub mod pairs;
 pub mod plans;
-pub mod sides;
 pub mod swaps;
 pub mod views;

@@ -1,10 +1,9 @@
 ghost use Rattle.std.specs.Prelude.{◌≡◌};
-ghost use Rattle.stores.specs.Exchange.{exchanged, faced, faced_answer};
+ghost use Rattle.stores.specs.Exchange.{exchanged, faced};
 ghost use Rattle.stores.specs.Exchanges.{exchanged_bounded};
 
 use crate::faults::StoreFault;
-use crate::pairs::{Side, Standing};
-use crate::sides::{opposite, other_end};
+use crate::pairs::{Pair, Side, other_end};
 use crate::views::{Store, View};
 
 // A store the other way round: its buses are posts and its posts are buses.
@@ -16,36 +15,11 @@ fn face_fault(fault: StoreFault) -> StoreFault
     ensures { result ≡ faced fault }
 {
     match fault {
-        StoreFault::NoBus { bus, post } => StoreFault::NoPost {
-            bus: post,
-            post: bus,
-        },
-        StoreFault::NoPost { bus, post } => StoreFault::NoBus {
-            bus: post,
-            post: bus,
-        },
-        StoreFault::Stands { bus, post } => StoreFault::Stands {
-            bus: post,
-            post: bus,
-        },
-        StoreFault::Absent { bus, post } => StoreFault::Absent {
-            bus: post,
-            post: bus,
-        },
-        StoreFault::Full { bus, post } => StoreFault::Full {
-            bus: post,
-            post: bus,
-        },
-    }
-}
-
-// An answer of the store below, in the numbers of the swap.
-fn face_answer(answer: Result<(), StoreFault>) -> Result<(), StoreFault>
-    ensures { result ≡ faced_answer answer }
-{
-    match answer {
-        Ok(()) => Ok(()),
-        Err(fault) => Err(face_fault(fault)),
+        StoreFault::NoBus(pair) => StoreFault::NoPost(pair.swapped()),
+        StoreFault::NoPost(pair) => StoreFault::NoBus(pair.swapped()),
+        StoreFault::Stands(pair) => StoreFault::Stands(pair.swapped()),
+        StoreFault::Absent(pair) => StoreFault::Absent(pair.swapped()),
+        StoreFault::Full(pair) => StoreFault::Full(pair.swapped()),
     }
 }
 
@@ -65,10 +39,11 @@ impl<S: Store> Swap<S> {
     }
 }
 
+// The swap's own numbers are looked at first, since the store below looks at its own bus first, which is the swap's post.
 impl<S: View> View for Swap<S> {
-    ghost means = { λ s. exchanged (S.View.means s.0) };
+    ghost means = { λ s. exchanged (S.means s.0) };
 
-    ghost bounded = { λ s. exchanged_bounded _ (S.View.bounded s.0) };
+    ghost bounded = { λ s. exchanged_bounded _ (S.bounded s.0) };
 
     fn buses(&self) -> u16 {
         self.0.posts()
@@ -78,40 +53,31 @@ impl<S: View> View for Swap<S> {
         self.0.buses()
     }
 
-    // The swap's own bus is looked at first, since the store below looks at its own, which is the swap's post.
-    fn stands(&self, bus: u16, post: u16) -> Result<Standing, StoreFault> {
-        if bus >= self.0.posts() {
-            return Err(StoreFault::NoBus { bus, post });
-        }
-        match self.0.stands(post, bus) {
-            Ok(standing) => Ok(other_end(standing)),
-            Err(fault) => Err(face_fault(fault)),
-        }
+    fn stands(&self, pair: Pair) -> Result<Option<Side>, StoreFault> {
+        self.admit(pair)?;
+        let standing = self.0.stands(pair.swapped()).map_err(face_fault)?;
+        Ok(other_end(standing))
     }
 }
 
 impl<S: Store> Store for Swap<S> {
-    ghost room = { λ s. S.Store.room s.0 };
+    ghost room = { λ s. S.room s.0 };
 
-    fn add(&mut self, bus: u16, post: u16, side: Side) -> Result<(), StoreFault> {
-        if bus >= self.0.posts() {
-            return Err(StoreFault::NoBus { bus, post });
-        }
-        face_answer(self.0.add(post, bus, opposite(side)))
+    fn add(&mut self, pair: Pair, side: Side) -> Result<(), StoreFault> {
+        self.admit(pair)?;
+        self.0
+            .add(pair.swapped(), side.opposite())
+            .map_err(face_fault)
     }
 
-    fn drop(&mut self, bus: u16, post: u16) -> Result<(), StoreFault> {
-        if bus >= self.0.posts() {
-            return Err(StoreFault::NoBus { bus, post });
-        }
-        face_answer(self.0.drop(post, bus))
+    fn drop(&mut self, pair: Pair) -> Result<(), StoreFault> {
+        self.admit(pair)?;
+        self.0.drop(pair.swapped()).map_err(face_fault)
     }
 
-    fn turn(&mut self, bus: u16, post: u16) -> Result<(), StoreFault> {
-        if bus >= self.0.posts() {
-            return Err(StoreFault::NoBus { bus, post });
-        }
-        face_answer(self.0.turn(post, bus))
+    fn turn(&mut self, pair: Pair) -> Result<(), StoreFault> {
+        self.admit(pair)?;
+        self.0.turn(pair.swapped()).map_err(face_fault)
     }
 
     fn room(&self) -> usize {

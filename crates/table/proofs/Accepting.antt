@@ -10,9 +10,9 @@ use Rattle.blocks.specs.Ranks.{Raised, Lowered}
 use Rattle.blocks.specs.Sides.{OneChainTurned}
 use Rattle.blocks.proofs.Sums.{sum_cong}
 use Rattle.blocks.proofs.Updates.{ranks_added, ranks_dropped, shortfall_added, shortfall_dropped}
-use Rattle.stores.specs.Meaning.{Meaning, stands}
+use Rattle.stores.specs.Meaning.{Meaning, pair, stands}
 use Rattle.stores.specs.Promises.{Told}
-use Rattle.stores.specs.declared.pairs.Standing.{Standing}
+use Rattle.stores.specs.declared.pairs.Side.{Side}
 use Rattle.table.specs.declared.faults.TableFault.{TableFault}
 use Rattle.table.specs.declared.calls.Call.{Call}
 use Rattle.table.specs.declared.calls.Call.TheVariants.{Add, Drop}
@@ -62,14 +62,14 @@ reported reply L bytes c m n room room' answer w e s k still ranks sides right =
 
 -- an addition and a drop: the sides were made even first, from m to k
 module _ (L : Limits) (rising : Rising L) (bytes : ℕ) (m k n : Meaning) (room room₁ room' : ℕ) (s : Settled m k L) (same-room : room₁ ≡ room) (b p : ℕ) where
-  pub added : size m ≤ bytes → first (reasons (model_of m room) (Add b p)) ≡ None → AddedEven k n L b p → room' + 1 ≡ room₁
-      → Promised (λ (_ : Unit {0}). Done) L bytes (Add b p) m n room room' (Ok tt)
+  pub added : size m ≤ bytes → first (reasons (model_of m room) (Add (pair b p))) ≡ None → AddedEven k n L b p → room' + 1 ≡ room₁
+      → Promised (λ (_ : Unit {0}). Done) L bytes (Add (pair b p)) m n room room' (Ok tt)
   added w none a left =
       let fits = add_checked m room b p none in
       let absent : (yard_of m).paired b p ≡ false = ap stands fits.absent in
       let y : yard_of n ≡ add b p (yard_of m) = a.yard ∙ ap (add b p) (same_yard m k s.pairs) in
       let r : room' ≡ room - 1 = omega arith in
-      accept (λ (_ : Unit {0}). Done) L bytes (Add b p) m n room room' (Ok tt) w none
+      accept (λ (_ : Unit {0}). Done) L bytes (Add (pair b p)) m n room room' (Ok tt) w none
       (record {
         answer = tt;
         answered = refl;
@@ -83,13 +83,13 @@ module _ (L : Limits) (rising : Rising L) (bytes : ℕ) (m k n : Meaning) (room 
         sides = λ h. subst (λ z. OneChainTurned (yard_of z) (yard_of z).paired (sides_of z) (sides_of n)) (s.same h) a.chain;
       })
 
-  pub dropped : size m ≤ bytes → first (reasons (model_of m room) (Drop b p)) ≡ None → DroppedEven k n L b p → room' ≡ room₁ + 1
-      → Promised (λ (_ : Unit {0}). Done) L bytes (Drop b p) m n room room' (Ok tt)
+  pub dropped : size m ≤ bytes → first (reasons (model_of m room) (Drop (pair b p))) ≡ None → DroppedEven k n L b p → room' ≡ room₁ + 1
+      → Promised (λ (_ : Unit {0}). Done) L bytes (Drop (pair b p)) m n room room' (Ok tt)
   dropped w none d more =
       let fits = drop_checked m room b p none in
       let y : yard_of n ≡ drop b p (yard_of m) = d.yard ∙ ap (drop b p) (same_yard m k s.pairs) in
       let r : room' ≡ room + 1 = omega arith in
-      accept (λ (_ : Unit {0}). Done) L bytes (Drop b p) m n room room' (Ok tt) w none
+      accept (λ (_ : Unit {0}). Done) L bytes (Drop (pair b p)) m n room room' (Ok tt) w none
       (record {
         answer = tt;
         answered = refl;
@@ -125,7 +125,7 @@ module _ (m : Meaning) (L : Limits) (a : ℕ) (marks : List ℕ) (of-block : Blo
   block_member start nodes r e f = (r, refl, block_first start r (subst (λ (n : ℕ). FirstMember (marked marks) start n r) e f))
 
 -- what a store tells of a pair is what side answers
-pub side_told : (m : Meaning) (b p : ℕ) (s : Standing) → Told m b p (Ok s) → (t : Standing) × (the_side s ≡ the_side t) × SideTold (yard_of m) m b p t
+pub side_told : (m : Meaning) (b p : ℕ) (s : Option Side) → Told m b p (Ok s) → (t : Option Side) × (the_side s ≡ the_side t) × SideTold (yard_of m) m b p t
 side_told m b p s t =
     let e = (told_standing m b p [] s t).3 in (
       s,

@@ -12,7 +12,7 @@ use Rattle.blocks.proofs.Yards.{levels, net_of}
 use Rattle.stores.specs.Meaning.{Meaning, Bounded, stands}
 use Rattle.table.specs.declared.queues.Queue.{Queue}
 use Rattle.table.specs.Yards.{yard_of, sides_of, leads_of}
-use Rattle.table.specs.Searches.{node, from, marked, Searched, Started, Grown, Sought}
+use Rattle.table.specs.Searches.{len, node, from, marked, Searched, Started, Grown, Sought}
 use Rattle.table.specs.Levels.{against, size, load_of, over_at, BusesWithin, Upward, Clear, OverStarted, Descended}
 
 -- what stands lies within the sizes
@@ -33,13 +33,13 @@ post_over m L a p w l e =
 -- the first k posts have been looked at
 pub record OverStarting (m : Meaning) (L : Limits) (a : ℕ) (wanted : ℕ → Bool) (q r : Queue) (marks : List ℕ) (k : ℕ) : Type 0 where
   pub state : Searched (against m) (size m) r marks
-  pub longer : q.len ≤ r.len
+  pub longer : len q ≤ len r
   pub next : r.next ≡ q.next
-  pub same_node : (i : ℕ) → i < q.len → node r i ≡ node q i
-  pub same_from : (i : ℕ) → i < q.len → from r i ≡ from q i
-  pub is_start : (i : ℕ) → q.len ≤ i → i < r.len → (from r i ≡ i) × (over_at m L a (node r i) ≡ true)
+  pub same_node : (i : ℕ) → i < len q → node r i ≡ node q i
+  pub same_from : (i : ℕ) → i < len q → from r i ≡ from q i
+  pub is_start : (i : ℕ) → len q ≤ i → i < len r → (from r i ≡ i) × (over_at m L a (node r i) ≡ true)
   pub there : (p : ℕ) → p < k → over_at m L a (m.buses + p) ≡ true → marked marks (m.buses + p) ≡ true
-  pub unwanted : (i : ℕ) → q.len ≤ i → i < r.len → wanted (node r i) ≡ false
+  pub unwanted : (i : ℕ) → len q ≤ i → i < len r → wanted (node r i) ≡ false
 
 module _ (m : Meaning) (L : Limits) (a : ℕ) (wanted : ℕ → Bool) (q : Queue) where
   pub over_none : (marks : List ℕ) → Searched (against m) (size m) q marks → OverStarting m L a wanted q q marks 0
@@ -71,8 +71,8 @@ module _ (m : Meaning) (L : Limits) (a : ℕ) (wanted : ℕ → Bool) (q : Queue
     }
 
     module _ (s : Queue) (marks' : List ℕ) (b : Started (against m) (size m) r s marks marks' (m.buses + k)) (over : over_at m L a (m.buses + k) ≡ true) where
-      new_start : (i : ℕ) → q.len ≤ i → i < s.len → (from s i ≡ i) × (over_at m L a (node s i) ≡ true)
-      new_start i h l = elim (cases_lt i r.len) [
+      new_start : (i : ℕ) → len q ≤ i → i < len s → (from s i ≡ i) × (over_at m L a (node s i) ≡ true)
+      new_start i h l = elim (cases_lt i (len r)) [
         | inl j ↦ let p = o.is_start i h j in (b.same_from i j ∙ p.0, ap (over_at m L a) (b.same_node i j) ∙ p.1)
         | inr j ↦ let p = b.is_start i j l in (p.1, ap (over_at m L a) p.0 ∙ over)
       ]
@@ -89,15 +89,15 @@ module _ (m : Meaning) (L : Limits) (a : ℕ) (wanted : ℕ → Bool) (q : Queue
           | inl i ↦ ap (λ z. marked marks' (m.buses + z)) i ∙ b.there
           | inr d ↦ b.still (m.buses + p) (o.there p (omega arith) e)
         ];
-        unwanted = λ i h l. elim (cases_lt i r.len) [
+        unwanted = λ i h l. elim (cases_lt i (len r)) [
           | inl j ↦ ap wanted (b.same_node i j) ∙ o.unwanted i h j
           | inr j ↦ ap wanted (b.is_start i j l).0 ∙ unw
         ];
       }
 
-      pub over_found : marked marks (m.buses + k) ≡ false → m.buses + k < size m → wanted (m.buses + k) ≡ true → (place : ℕ) → place ≡ s.len - 1 → OverStarted m L a wanted q s marks' (Some place)
+      pub over_found : marked marks (m.buses + k) ≡ false → m.buses + k < size m → wanted (m.buses + k) ≡ true → (place : ℕ) → place ≡ len s - 1 → OverStarted m L a wanted q s marks' (Some place)
       over_found fresh inside w place e =
-          let grew : r.len < s.len = elim (cases_lt r.len s.len) [ inl l ↦ l | inr l ↦ absurd (not_grown l) ] in
+          let grew : len r < (len s) = elim (cases_lt (len r) (len s)) [ inl l ↦ l | inr l ↦ absurd (not_grown l) ] in
           record {
             state = b.state;
             longer = omega (arith, o.longer, b.longer);
@@ -118,7 +118,7 @@ module _ (m : Meaning) (L : Limits) (a : ℕ) (wanted : ℕ → Bool) (q : Queue
           no_none h = let z : ◌≡◌ {A = ℕ} 0 1 = cc in omega arith
 
           -- it is marked now and was not before, so it has been found since
-          not_grown : s.len ≤ r.len → ⊥
+          not_grown : len s ≤ len r → ⊥
           not_grown l =
               let f = b.state.found_marked (m.buses + k) inside b.there in
               let lf = f.1 in
@@ -150,14 +150,14 @@ found_at a b place p h F f =
 pub record Descending (m : Meaning) (L : Limits) (sought : ℕ → ℕ → Bool) (level : ℕ) (q : Queue) (marks : List ℕ) : Type 0 where
   pub bound : level ≤ 256
   pub state : Searched (against m) (size m) q marks
-  pub all_followed : q.next ≡ q.len
-  pub starts : (i : ℕ) → i < q.len → from q i ≡ i → (level < 256) × (over_at m L level (node q i) ≡ true)
-  pub unsought : (i : ℕ) → i < q.len → (level < 256) × (sought level (node q i) ≡ false)
+  pub all_followed : q.next ≡ len q
+  pub starts : (i : ℕ) → i < len q → from q i ≡ i → (level < 256) × (over_at m L level (node q i) ≡ true)
+  pub unsought : (i : ℕ) → i < len q → (level < 256) × (sought level (node q i) ≡ false)
   pub clear : (c : ℕ) → level ≤ c → c < 256 → Clear m L sought c
   pub reach : level < 256 → Reach (size m) (leads_of m) (limit_at m.buses L level) (marked marks)
 
 module _ (m : Meaning) (L : Limits) (sought : ℕ → ℕ → Bool) where
-  pub descending_none : (q : Queue) (marks : List ℕ) → Searched (against m) (size m) q marks → q.len ≡ 0 → q.next ≡ 0 → Descending m L sought 256 q marks
+  pub descending_none : (q : Queue) (marks : List ℕ) → Searched (against m) (size m) q marks → len q ≡ 0 → q.next ≡ 0 → Descending m L sought 256 q marks
   descending_none q marks state el ex = record {
     bound = omega arith;
     state = state;
@@ -183,8 +183,8 @@ module _ (m : Meaning) (L : Limits) (sought : ℕ → ℕ → Bool) where
 
     module _ (r : Queue) (marks' : List ℕ) (answer : Option ℕ) (o : OverStarted m L a (sought a) q r marks' answer) where
       -- every start, old or new, is over its limit here
-      starts_over : (i : ℕ) → i < r.len → from r i ≡ i → over_at m L a (node r i) ≡ true
-      starts_over i l e = elim (cases_lt i q.len) [
+      starts_over : (i : ℕ) → i < len r → from r i ≡ i → over_at m L a (node r i) ≡ true
+      starts_over i l e = elim (cases_lt i (len q)) [
         | inl h ↦ let s = d.starts i h (sym (o.same_from i h) ∙ e) in ap (over_at m L a) (o.same_node i h) ∙ over_too (node q i) s.0 s.1
         | inr h ↦ (o.is_start i h l).1
       ]
@@ -197,7 +197,7 @@ module _ (m : Meaning) (L : Limits) (sought : ℕ → ℕ → Bool) where
           let f = o.finds place e in
           record {
             state = o.state;
-            finds = λ b p h. found_at a b place p h (λ x y. (low ≤ x) × (x < 256) × (y < r.len) × (sought x (node r y) ≡ true) × ((i : ℕ) → i < r.len → from r i ≡ i → over_at m L x (node r i) ≡ true) × ((c : ℕ) → x < c → c < 256 → Clear m L sought c))
+            finds = λ b p h. found_at a b place p h (λ x y. (low ≤ x) × (x < 256) × (y < len r) × (sought x (node r y) ≡ true) × ((i : ℕ) → i < len r → from r i ≡ i → over_at m L x (node r i) ≡ true) × ((c : ℕ) → x < c → c < 256 → Clear m L sought c))
                 (ll, la, f.1, f.2, starts_over, clear_above);
             misses = λ h. absurd (no_none h);
           }
@@ -206,14 +206,14 @@ module _ (m : Meaning) (L : Limits) (sought : ℕ → ℕ → Bool) where
           no_none h = let z : ◌≡◌ {A = ℕ} 0 1 = cc in omega arith
 
       module _ (none : answer ≡ None) (s : Queue) (marks'' : List ℕ) where
-        unsought_start : (i : ℕ) → i < r.len → sought a (node r i) ≡ false
-        unsought_start i l = elim (cases_lt i q.len) [
+        unsought_start : (i : ℕ) → i < len r → sought a (node r i) ≡ false
+        unsought_start i l = elim (cases_lt i (len q)) [
           | inl h ↦ let u = d.unsought i h in ap (sought a) (o.same_node i h) ∙ unsought_too (node q i) u.0 u.1
           | inr h ↦ (o.misses none).1 i h l
         ]
 
-        starts_after : Grown r s → (i : ℕ) → i < s.len → from s i ≡ i → over_at m L a (node s i) ≡ true
-        starts_after g i l e = elim (cases_lt i r.len) [
+        starts_after : Grown r s → (i : ℕ) → i < len s → from s i ≡ i → over_at m L a (node s i) ≡ true
+        starts_after g i l e = elim (cases_lt i (len r)) [
           | inl h ↦ ap (over_at m L a) (g.same_node i h) ∙ starts_over i h (sym (g.same_from i h) ∙ e)
           | inr h ↦ absurd (omega (arith, g.no_start i h l))
         ]
@@ -223,7 +223,7 @@ module _ (m : Meaning) (L : Limits) (sought : ℕ → ℕ → Bool) where
             let f = b.finds place refl in
             record {
               state = b.state;
-              finds = λ x p h. found_at a x place p h (λ x y. (low ≤ x) × (x < 256) × (y < s.len) × (sought x (node s y) ≡ true) × ((i : ℕ) → i < s.len → from s i ≡ i → over_at m L x (node s i) ≡ true) × ((c : ℕ) → x < c → c < 256 → Clear m L sought c))
+              finds = λ x p h. found_at a x place p h (λ x y. (low ≤ x) × (x < 256) × (y < len s) × (sought x (node s y) ≡ true) × ((i : ℕ) → i < len s → from s i ≡ i → over_at m L x (node s i) ≡ true) × ((c : ℕ) → x < c → c < 256 → Clear m L sought c))
                   (ll, la, f.1, f.2, starts_after b.grown, clear_above);
               misses = λ h. absurd (no_none h);
             }
@@ -232,8 +232,8 @@ module _ (m : Meaning) (L : Limits) (sought : ℕ → ℕ → Bool) where
             no_none h = let z : ◌≡◌ {A = ℕ} 0 1 = cc in omega arith
 
         module _ (b : Sought (against m) (size m) (sought a) r s marks'' None) where
-          unsought_now : (i : ℕ) → i < s.len → sought a (node s i) ≡ false
-          unsought_now i l = elim (cases_lt i r.len) [
+          unsought_now : (i : ℕ) → i < len s → sought a (node s i) ≡ false
+          unsought_now i l = elim (cases_lt i (len r)) [
             | inl h ↦ ap (sought a) (b.grown.same_node i h) ∙ unsought_start i h
             | inr h ↦ (b.misses refl).1 i h l
           ]
@@ -261,9 +261,9 @@ module _ (m : Meaning) (L : Limits) (sought : ℕ → ℕ → Bool) where
                 b.state.closed f.0 x (omega (arith, (b.misses refl).0)) w.0 (ap (λ z. leads_of m x z) f.2 ∙ k);
             reaches = λ x l e.
                 let f = b.state.found_marked x l e in
-                let c = chain_to_start (leads_of m) s.len (node s) (from s) (record { once = b.state.once; links = b.state.found }) f.0 f.1 in
+                let c = chain_to_start (leads_of m) (len s) (node s) (from s) (record { once = b.state.once; links = b.state.found }) f.0 f.1 in
                 let lf = f.1 in
-                let lr : c.1 < s.len = omega (arith, c.3) in
+                let lr : c.1 < (len s) = omega (arith, c.3) in
                 let o = starts_after b.grown c.1 lr c.4 in (
                   node s c.1,
                   b.state.inside c.1 lr,

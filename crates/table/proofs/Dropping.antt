@@ -1,5 +1,5 @@
 -- A pair dropped from a store with even sides, and one chain turned before it.
-use Rattle.std.proofs.Common.{◌≡◌, ℕ, ◌+◌, ◌<◌, ◌≤◌, Bool, true, false, cond, not, ◌&&◌, eqb, List, [], ◌∷◌, Some, None, Result, sym, refl, ap, ◌∙◌, subst, ap₂, inl, inr, arith}
+use Rattle.std.proofs.Common.{◌≡◌, ℕ, ◌+◌, ◌<◌, ◌≤◌, Bool, true, false, cond, not, ◌&&◌, eqb, List, [], ◌∷◌, Some, None, Result, sym, refl, ap, ◌∙◌, subst, ap₂, inl, inr, arith, Option}
 use mathlib.Core.Path.{fun_ext}
 use Rattle.std.proofs.lemmas.Bool.{cases_eq, cases_lt, both_ways, eq-eqb, eqb-true, ltb-true}
 use Rattle.std.proofs.lemmas.Bool.Decides.{nat_tests}
@@ -13,14 +13,13 @@ use Rattle.blocks.proofs.Changes.{removed_walk}
 use Rattle.blocks.proofs.OnePair as one-pair
 use Rattle.blocks.proofs.Levels.{rise_le, level_rise}
 use Rattle.stores.specs.Meaning.{Meaning, Bounded, put, other, stands, by_post}
-use Rattle.stores.specs.declared.pairs.Standing.{Standing}
+use Rattle.stores.specs.declared.pairs.Side.{Side}
 use Rattle.stores.specs.declared.pairs.Side.TheVariants.{Bus as bus_side, Post as post_side}
-use Rattle.stores.specs.declared.pairs.Standing.TheVariants.{Absent, Bus, Post}
 use Rattle.stores.specs.declared.faults.StoreFault.{StoreFault}
 use Rattle.stores.specs.Promises.{Turned}
 use Rattle.table.specs.declared.queues.Queue.{Queue}
 use Rattle.table.specs.Yards.{yard_of, sides_of, leads_of, along}
-use Rattle.table.specs.Searches.{node, from, TurnedBack}
+use Rattle.table.specs.Searches.{len, node, from, TurnedBack}
 use Rattle.table.specs.Levels.{size, load_of, Clear, Descended}
 use Rattle.table.specs.Buses.{pairs_of, on_side, SamePairs}
 use Rattle.table.specs.Evening.{EvenSides}
@@ -48,7 +47,7 @@ without_first leads x y (v ∷ vs) c = off_first leads x y y (v ∷ vs) c.1 c
 
 -- one pair taken out: its yard and its sides, whether other pairs turn before or after
 module _ (m : Meaning) (b p : ℕ) where
-  gone : (t : Bool) (r : Standing) → stands (cond t Absent r) ≡ (stands r && not t)
+  gone : (t : Bool) (r : Option Side) → stands (cond t None r) ≡ (stands r && not t)
   gone true r = off (stands r)
     where
       off : (k : Bool) → false ≡ (k && false)
@@ -58,19 +57,19 @@ module _ (m : Meaning) (b p : ℕ) where
       on : (k : Bool) → k ≡ (k && true)
       on k = grind arith
 
-  pub drop_yard : yard_of (put b p Absent m) ≡ drop b p (yard_of m)
+  pub drop_yard : yard_of (put b p None m) ≡ drop b p (yard_of m)
   drop_yard i = record { buses = m.buses; posts = m.posts; paired = fun_ext (λ c. fun_ext (λ q. gone (eqb c b && eqb q p) (m.standing c q))) i }
 
-  pub drop_leads : leads_of (put b p Absent m) ≡ pointing m.buses (drop b p (yard_of m)).paired (sides.put b p false (sides_of m))
-  drop_leads = ap₂ (pointing m.buses) (ap (λ Y. Y.paired) drop_yard) (put_sides m b p Absent)
+  pub drop_leads : leads_of (put b p None m) ≡ pointing m.buses (drop b p (yard_of m)).paired (sides.put b p false (sides_of m))
+  drop_leads = ap₂ (pointing m.buses) (ap (λ Y. Y.paired) drop_yard) (put_sides m b p None)
 
-  either_order : (u t : Bool) (r : Standing) → cond t Absent (cond u (other r) r) ≡ cond u (other (cond t Absent r)) (cond t Absent r)
+  either_order : (u t : Bool) (r : Option Side) → cond t None (cond u (other r) r) ≡ cond u (other (cond t None r)) (cond t None r)
   either_order true true r = refl
   either_order true false r = refl
   either_order false true r = refl
   either_order false false r = refl
 
-  pub turned_before : (y : ℕ) (vs : List ℕ) → put b p Absent (along y vs m) ≡ along y vs (put b p Absent m)
+  pub turned_before : (y : ℕ) (vs : List ℕ) → put b p None (along y vs m) ≡ along y vs (put b p None m)
   turned_before y vs i = record {
     buses = m.buses;
     posts = m.posts;
@@ -98,7 +97,7 @@ module _ (m : Meaning) (L : Limits) (rising : Rising L) (bounded : Bounded m) (e
     is_y : node q place ≡ y
     is_y = eqb-true (node q place) y (d.finds a place refl).3
 
-    the_chain : Chain (leads_of m) (node q place) t.trail × ((r : ℕ) × (r < q.len) × (from q r ≡ r) × (end (node q place) t.trail ≡ node q r))
+    the_chain : Chain (leads_of m) (node q place) t.trail × ((r : ℕ) × (r < len q) × (from q r ≡ r) × (end (node q place) t.trail ≡ node q r))
     the_chain = trail_chain m q (against_pairs m q marks d.state) d.state.found place t.trail t.is_trail (d.finds a place refl).2
 
     last_is : end y t.trail ≡ node q the_chain.1.0
@@ -141,7 +140,7 @@ module _ (m : Meaning) (L : Limits) (rising : Rising L) (bounded : Bounded m) (e
   }
 
   -- so any pair of a bus that its post carries may go over to the bus
-  pub turned_one : (b : ℕ) → b < m.buses → (q : Queue) (marks : List ℕ) → Descended m L (λ _ n. eqb n b) 0 q marks None → (p : ℕ) → m.standing b p ≡ Post
+  pub turned_one : (b : ℕ) → b < m.buses → (q : Queue) (marks : List ℕ) → Descended m L (λ _ n. eqb n b) 0 q marks None → (p : ℕ) → m.standing b p ≡ (Some post_side)
       → (n : Meaning) (room room' : ℕ) (r : Result (Unit {0}) StoreFault) → Turned m n room room' b p r → (room' ≡ room) × TurnedFrom m n L b
   turned_one b lb q marks d p e n room room' r t =
       let done = t.turns lb lp there in (
@@ -149,7 +148,7 @@ module _ (m : Meaning) (L : Limits) (rising : Rising L) (bounded : Bounded m) (e
         turned_free b (omega arith) q marks d n ((m.buses + p) ∷ []) (link, (apart, tt), tt) (done.0.meaning ∙ step_turned m b (m.buses + p) [] b p (inl (refl, refl)) lb (apart, tt)) (omega arith) (omega (arith, lp)),
       )
     where
-      there : m.standing b p ≡ Absent → ⊥
+      there : m.standing b p ≡ None → ⊥
       there h = both_ways (stands (m.standing b p)) (ap stands h) (ap stands e)
 
       lp : p < m.posts
@@ -169,19 +168,19 @@ module _ (m : Meaning) (L : Limits) (rising : Rising L) (bounded : Bounded m) (e
       fewer_chain : Chain (pointing m.buses (drop b p (yard_of m)).paired (sides.put b p false (sides_of m))) y t.rest
       fewer_chain = subst (λ g. Chain g y t.rest) (sym fewer-is) (without_first (leads_of m) x y t.rest t.chain)
 
-      after_is : put b p Absent n ≡ along y t.rest (put b p Absent m)
-      after_is = ap (put b p Absent) t.changes ∙ turned_before m b p y t.rest
+      after_is : put b p None n ≡ along y t.rest (put b p None m)
+      after_is = ap (put b p None) t.changes ∙ turned_before m b p y t.rest
 
-      after_leads : leads_of (along y t.rest (put b p Absent m)) ≡ pointing m.buses (drop b p (yard_of m)).paired (flipped m.buses y t.rest (sides.put b p false (sides_of m)))
+      after_leads : leads_of (along y t.rest (put b p None m)) ≡ pointing m.buses (drop b p (yard_of m)).paired (flipped m.buses y t.rest (sides.put b p false (sides_of m)))
       after_leads =
-          along_leads (put b p Absent m) y t.rest
-          ∙ ap₂ (pointing m.buses) (ap (λ Y. Y.paired) (drop_yard m b p)) (ap (flipped m.buses y t.rest) (put_sides m b p Absent))
+          along_leads (put b p None m) y t.rest
+          ∙ ap₂ (pointing m.buses) (ap (λ Y. Y.paired) (drop_yard m b p)) (ap (flipped m.buses y t.rest) (put_sides m b p None))
 
-      dropped_turned : DroppedEven m (put b p Absent n) L b p
+      dropped_turned : DroppedEven m (put b p None n) L b p
       dropped_turned =
           let old = one-pair.drop_chain (yard_of m) L (sides_of m) rising (sized m bounded) even b p lb lp held false x y link fewer-is t.rest fewer_chain in
           record {
-            yard = ap yard_of after_is ∙ along_yard (put b p Absent m) y t.rest ∙ drop_yard m b p;
+            yard = ap yard_of after_is ∙ along_yard (put b p None m) y t.rest ∙ drop_yard m b p;
             even = subst (λ k. EvenSides k L) (sym after_is)
                 (subst (λ g. EvenNetwork m.buses (size m) 256 (limit_at m.buses L) g) (sym after_leads)
                 (one-pair.drop_even (yard_of m) L (sides_of m) rising (sized m bounded) even b p lb lp held false x y link fewer-is t.rest fewer_chain
@@ -192,47 +191,47 @@ module _ (m : Meaning) (L : Limits) (rising : Rising L) (bounded : Bounded m) (e
               rest = old.rest;
               chain = old.chain;
               exactly = λ c k h.
-                  let s1 : stands ((put b p Absent m).standing c k) ≡ true = ap (λ Y. Y.paired c k) (drop_yard m b p) ∙ h in
+                  let s1 : stands ((put b p None m).standing c k) ≡ true = ap (λ Y. Y.paired c k) (drop_yard m b p) ∙ h in
                   ap (λ z. sides_of z c k) after_is
-                  ∙ side_turned (in_chain m.buses y t.rest c k) ((put b p Absent m).standing c k) s1
-                  ∙ ap (λ f. flipped m.buses y t.rest f c k) (put_sides m b p Absent)
+                  ∙ side_turned (in_chain m.buses y t.rest c k) ((put b p None m).standing c k) s1
+                  ∙ ap (λ f. flipped m.buses y t.rest f c k) (put_sides m b p None)
                   ∙ old.exactly c k h;
             };
           }
 
     -- the post carried it
-    pub dropped_from_post : m.standing b p ≡ Post → (n : Meaning) → TurnedFrom m n L (m.buses + p) → DroppedEven m (put b p Absent n) L b p
+    pub dropped_from_post : m.standing b p ≡ (Some post_side) → (n : Meaning) → TurnedFrom m n L (m.buses + p) → DroppedEven m (put b p None n) L b p
     dropped_from_post e n t =
         dropped_turned b (m.buses + p) (one-pair.post_link (yard_of m) L (sides_of m) rising (sized m bounded) even b p lb lp held false (ap by_post e))
         (one-pair.from_post_is (yard_of m) L (sides_of m) rising (sized m bounded) even b p lb lp held false (ap by_post e)) (λ h. absurd (omega arith)) n t
 
     -- the bus carried it, and has more pairs than its limit
-    pub dropped_from_bus : m.standing b p ≡ Bus → L.bus b < pairs_of m b → (n : Meaning) → TurnedFrom m n L b → DroppedEven m (put b p Absent n) L b p
+    pub dropped_from_bus : m.standing b p ≡ (Some bus_side) → L.bus b < pairs_of m b → (n : Meaning) → TurnedFrom m n L b → DroppedEven m (put b p None n) L b p
     dropped_from_bus e heavy n t =
         dropped_turned (m.buses + p) b (one-pair.bus_link (yard_of m) L (sides_of m) rising (sized m bounded) even b p lb lp held false (ap by_post e))
         (one-pair.from_bus_is (yard_of m) L (sides_of m) rising (sized m bounded) even b p lb lp held false (ap by_post e)) (λ _. heavy) n t
 
     -- the bus carried it, and has no more pairs than its limit: nothing turns
-    pub dropped_light : m.standing b p ≡ Bus → pairs_of m b ≤ L.bus b → DroppedEven m (put b p Absent m) L b p
+    pub dropped_light : m.standing b p ≡ (Some bus_side) → pairs_of m b ≤ L.bus b → DroppedEven m (put b p None m) L b p
     dropped_light e light = record {
       yard = drop_yard m b p;
       even = subst (λ g. EvenNetwork m.buses (size m) 256 (limit_at m.buses L) g) (sym (drop_leads m b p))
           (one-pair.drop_light (yard_of m) L (sides_of m) rising (sized m bounded) even b p lb lp held false (m.buses + p) b
           (one-pair.bus_link (yard_of m) L (sides_of m) rising (sized m bounded) even b p lb lp held false (ap by_post e))
           (one-pair.from_bus_is (yard_of m) L (sides_of m) rising (sized m bounded) even b p lb lp held false (ap by_post e)) lb (omega (arith, bus_degree m b lb)));
-      chain = subst (OneChainTurned (yard_of m) (drop b p (yard_of m)).paired (sides_of m)) (sym (put_sides m b p Absent))
+      chain = subst (OneChainTurned (yard_of m) (drop b p (yard_of m)).paired (sides_of m)) (sym (put_sides m b p None))
           (one-pair.drop_light_chain (yard_of m) L (sides_of m) rising (sized m bounded) even b p lb lp held false);
     }
 
-on_post : (s : Standing) → by_post s ≡ true → s ≡ Post
-on_post Absent e = absurd (both_ways false refl e)
-on_post Bus e = absurd (both_ways false refl e)
-on_post Post e = refl
+on_post : (s : Option Side) → by_post s ≡ true → s ≡ (Some post_side)
+on_post None e = absurd (both_ways false refl e)
+on_post (Some bus_side) e = absurd (both_ways false refl e)
+on_post (Some post_side) e = refl
 
-on_bus : (s : Standing) → stands s ≡ true → by_post s ≡ false → s ≡ Bus
-on_bus Absent h e = absurd (both_ways false refl h)
-on_bus Bus h e = refl
-on_bus Post h e = absurd (both_ways true e refl)
+on_bus : (s : Option Side) → stands s ≡ true → by_post s ≡ false → s ≡ (Some bus_side)
+on_bus None h e = absurd (both_ways false refl h)
+on_bus (Some bus_side) h e = refl
+on_bus (Some post_side) h e = absurd (both_ways true e refl)
 
 only_sides : (m n : Meaning) (L : Limits) (y : ℕ) → TurnedFrom m n L y → SamePairs m n
 only_sides m n L y t = subst (SamePairs m) (sym t.changes) (along_pairs m y t.rest)

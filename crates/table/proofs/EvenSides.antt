@@ -1,5 +1,6 @@
 -- Even sides, and what one turned chain does to a store's meaning.
 use Rattle.std.proofs.Common.{◌≡◌, ℕ, zero, suc, ◌+◌, ◌-◌, ◌<◌, ◌≤◌, min, Bool, true, false, cond, not, ◌&&◌, eqb, ltb, leb, ◌⊎◌, List, get_or, Some, None, Option, sym, refl, ap, ◌∙◌, subst, ap₂, inl, inr, arith}
+use Rattle.std.specs.Option.{option_map}
 use mathlib.Core.Path.{fun_ext}
 use Rattle.std.proofs.lemmas.Bool.{cases_eq, cases_lt, both_ways, ltb-true, lt-ltb, le-leb, lt-leb, leb-true, ne_eqb, and_parts, and_from}
 use Rattle.blocks.specs.Sums.{sum, bit}
@@ -14,12 +15,11 @@ use Rattle.blocks.proofs.Levels.{at_bus, at_post}
 use Rattle.blocks.proofs.Reading as reading
 use Rattle.blocks.proofs.Yards.{net_of, settling_ends_lem}
 use Rattle.stores.specs.Meaning.{Meaning, Bounded, stands, by_post, other}
-use Rattle.stores.specs.declared.pairs.Standing.{Standing}
-use Rattle.stores.specs.declared.pairs.Standing.TheVariants.{Absent, Bus, Post}
-use Rattle.stores.specs.declared.pairs.Side.TheVariants.{Bus as bus_side}
+use Rattle.stores.specs.declared.pairs.Side.{Side}
+use Rattle.stores.specs.declared.pairs.Side.TheVariants.{Bus as bus_side, Post}
 use Rattle.table.specs.declared.queues.Queue.{Queue}
 use Rattle.table.specs.Yards.{yard_of, sides_of, leads_of, along}
-use Rattle.table.specs.Searches.{node, from, Searched, Trail, at_start, earlier, OverPairs, TurnedBack}
+use Rattle.table.specs.Searches.{len, node, from, Searched, Trail, at_start, earlier, OverPairs, TurnedBack}
 use Rattle.table.specs.Levels.{against, size, load_of, over_at, under_at, under, LoadsOf, BusesWithin, Upward, Clear, Descended}
 use Rattle.table.specs.Buses.{on_side, pairs_of, BusesRight, SamePairs, BusesSettled}
 use Rattle.table.specs.Evening.{EvenSides, Uneven, ChainTurned, Settled, unevenness}
@@ -29,10 +29,10 @@ use Rattle.table.proofs.Descending.{sized}
 
 -- every pair of a chain turned: the same pairs, and the network of the chain turned
 module _ (m : Meaning) (x : ℕ) (vs : List ℕ) where
-  still : (t : Bool) (s : Standing) → stands (cond t (other s) s) ≡ stands s
-  still true Absent = refl
-  still true Bus = refl
-  still true Post = refl
+  still : (t : Bool) (s : Option Side) → stands (cond t (other s) s) ≡ stands s
+  still true None = refl
+  still true (Some bus_side) = refl
+  still true (Some Post) = refl
   still false s = refl
 
   pub along_paired : (b p : ℕ) → (yard_of (along x vs m)).paired b p ≡ (yard_of m).paired b p
@@ -44,16 +44,16 @@ module _ (m : Meaning) (x : ℕ) (vs : List ℕ) where
   pub along_pairs : SamePairs m (along x vs m)
   along_pairs = record { buses = refl; posts = refl; same = along_paired }
 
-  side_bus : (t : Bool) (s : Standing) → (stands (cond t (other s) s) && by_post (cond t (other s) s)) ≡ (stands s && cond t (not (by_post s)) (by_post s))
-  side_bus true Absent = refl
-  side_bus true Bus = refl
-  side_bus true Post = refl
+  side_bus : (t : Bool) (s : Option Side) → (stands (cond t (other s) s) && by_post (cond t (other s) s)) ≡ (stands s && cond t (not (by_post s)) (by_post s))
+  side_bus true None = refl
+  side_bus true (Some bus_side) = refl
+  side_bus true (Some Post) = refl
   side_bus false s = refl
 
-  side_post : (t : Bool) (s : Standing) → (stands (cond t (other s) s) && not (by_post (cond t (other s) s))) ≡ (stands s && not (cond t (not (by_post s)) (by_post s)))
-  side_post true Absent = refl
-  side_post true Bus = refl
-  side_post true Post = refl
+  side_post : (t : Bool) (s : Option Side) → (stands (cond t (other s) s) && not (by_post (cond t (other s) s))) ≡ (stands s && not (cond t (not (by_post s)) (by_post s)))
+  side_post true None = refl
+  side_post true (Some bus_side) = refl
+  side_post true (Some Post) = refl
   side_post false s = refl
 
   leads_at : (a c : ℕ) → leads_of (along x vs m) a c ≡ pointing m.buses (yard_of m).paired (flipped m.buses x vs (sides_of m)) a c
@@ -93,9 +93,9 @@ against_pairs m q marks state = record {
 }
 
 -- the way back of such a search is a chain to a start
-pub trail_chain : (m : Meaning) (q : Queue) → OverPairs m q → ((i : ℕ) → i < q.len → (from q i ≡ i) ⊎ ((from q i < i) × (leads_of m (node q i) (node q (from q i)) ≡ true)))
-    → (i : ℕ) (vs : List ℕ) → Trail q i vs → i < q.len
-    → Chain (leads_of m) (node q i) vs × ((r : ℕ) × (r < q.len) × (from q r ≡ r) × (end (node q i) vs ≡ node q r))
+pub trail_chain : (m : Meaning) (q : Queue) → OverPairs m q → ((i : ℕ) → i < len q → (from q i ≡ i) ⊎ ((from q i < i) × (leads_of m (node q i) (node q (from q i)) ≡ true)))
+    → (i : ℕ) (vs : List ℕ) → Trail q i vs → i < len q
+    → Chain (leads_of m) (node q i) vs × ((r : ℕ) × (r < len q) × (from q r ≡ r) × (end (node q i) vs ≡ node q r))
 trail_chain m q over found i vs (at_start e) l = (tt, (i, l, e, refl))
 trail_chain m q over found i vs (earlier {vs = ws} k t) l =
     let c = trail_chain m q over found (from q i) ws t (omega arith) in
@@ -111,10 +111,10 @@ module _ (m : Meaning) (b : ℕ) (lb : b < m.buses) where
   pub bus_load : load_of m b ≡ on_side m bus_side b
   bus_load = reading.bus_load m.buses m.posts (yard_of m).paired (sides_of m) b lb
 
-  either : (s : Standing) → bit (stands s && by_post s) + bit (stands s && not (by_post s)) ≡ bit (stands s)
-  either Absent = refl
-  either Bus = refl
-  either Post = refl
+  either : (s : Option Side) → bit (stands s && by_post s) + bit (stands s && not (by_post s)) ≡ bit (stands s)
+  either None = refl
+  either (Some bus_side) = refl
+  either (Some Post) = refl
 
   pub bus_degree : degree (size m) (leads_of m) b ≡ pairs_of m b
   bus_degree =
@@ -209,7 +209,7 @@ module _ (m : Meaning) (L : Limits) (loads : List ℕ) (bounded : Bounded m) (lo
         found = d.state.found;
         finds = λ p h.
             let e : place ≡ p = some_is h in
-            subst (λ z. (a : ℕ) × (a < 256) × (z < q.len) × (under_at m L a (node q z) ≡ true) × ((i : ℕ) → i < q.len → from q i ≡ i → over_at m L a (node q i) ≡ true)) e
+            subst (λ z. (a : ℕ) × (a < 256) × (z < len q) × (under_at m L a (node q z) ≡ true) × ((i : ℕ) → i < len q → from q i ≡ i → over_at m L a (node q i) ≡ true)) e
             (a, f.1, f.2, sym (under_is m L loads bounded loads-right a (node q place) (d.state.inside place f.2)) ∙ f.3, f.4);
         misses = λ h. absurd (no_none h);
       }
@@ -233,15 +233,19 @@ module _ (m : Meaning) (L : Limits) (loads : List ℕ) (bounded : Bounded m) (lo
       no_some : (p : ℕ) → ◌≡◌ {A = Option ℕ} None (Some p) → ⊥
       no_some p h = let z : ◌≡◌ {A = ℕ} 0 1 = cc in omega arith
 
+  pub uneven_by : (r : Option (ℕ × ℕ)) → Descended m L (under loads L m.buses m.posts) 0 q marks r → Uneven m L q (option_map (λ v. v.1) r)
+  uneven_by None d = uneven_none d
+  uneven_by (Some v) d = uneven_found v.0 v.1 d
+
 -- one chain turned from a post under its limit to one over it
 module _ (m n : Meaning) (L : Limits) (rising : Rising L) (bounded : Bounded m) (right : BusesRight m L) (q : Queue) (place : ℕ) (u : Uneven m L q (Some place)) (t : TurnedBack q place m n) where
   abbrev level : ℕ
   level = (u.finds place refl).0
 
-  inside : place < q.len
+  inside : place < len q
   inside = (u.finds place refl).2
 
-  the_chain : Chain (leads_of m) (node q place) t.trail × ((r : ℕ) × (r < q.len) × (from q r ≡ r) × (end (node q place) t.trail ≡ node q r))
+  the_chain : Chain (leads_of m) (node q place) t.trail × ((r : ℕ) × (r < len q) × (from q r ≡ r) × (end (node q place) t.trail ≡ node q r))
   the_chain = trail_chain m q u.over u.found place t.trail t.is_trail inside
 
   last_in : end (node q place) t.trail < size m
@@ -300,19 +304,6 @@ pub record Evening (m n : Meaning) (L : Limits) : Type 0 where
   pub right : BusesRight n L
   pub same : EvenSides m L → n ≡ m
 
-pub evening_none : (m : Meaning) (L : Limits) → BusesRight m L → Evening m m L
-evening_none m L right = record { pairs = record { buses = refl; posts = refl; same = λ c p. refl }; right = right; same = λ _. refl }
-
-pub evening_more : (m n k : Meaning) (L : Limits) → Evening m n L → ChainTurned n k L true → Evening m k L
-evening_more m n k L e c =
-    let t = c.nearer refl in
-    let p = t.2 in
-    record {
-      pairs = record { buses = p.buses ∙ e.pairs.buses; posts = p.posts ∙ e.pairs.posts; same = λ c r. p.same c r ∙ e.pairs.same c r };
-      right = t.1;
-      same = λ even. absurd (t.0 (subst (λ z. EvenSides z L) (sym (e.same even)) even));
-    }
-
 -- the buses made right first, and then all chains turned
 pub settled_whole : (m n k j : Meaning) (L : Limits) → BusesSettled m n L → Evening n k L → ChainTurned k j L false → Settled m j L
 settled_whole m n k j L s e c =
@@ -339,6 +330,3 @@ chain_turned m n L rising bounded right q place u t = record {
     unevenness_falls m n L rising bounded right q place u t,
   );
 }
-
-pub none_turned : (m : Meaning) (L : Limits) (q : Queue) → Uneven m L q None → ChainTurned m m L false
-none_turned m L q u = record { even = λ _. (u.misses refl, refl); nearer = λ h. absurd (both_ways false refl h) }

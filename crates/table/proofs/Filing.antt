@@ -1,31 +1,19 @@
 -- What the pair file call promises.
-use Rattle.std.proofs.Common.{◌≡◌, ℕ, ◌*◌, ◌<◌, ◌≤◌, ltb, List, [], ◌∷◌, ◌++◌, length, drop, Some, Ok, Err, Result, sym, refl, ap, ◌∙◌, subst}
-use Rattle.std.proofs.lemmas.Bool.{lt-ltb, le-ltb}
+use Rattle.std.proofs.Common.{◌≡◌, ℕ, ◌*◌, ◌≤◌, ltb, List, [], ◌∷◌, ◌++◌, length, drop, Ok, sym, ap, ◌∙◌, subst}
+use Rattle.std.proofs.lemmas.Bool.{le-ltb}
 use Rattle.blocks.specs.Limits.{Limits}
 use Rattle.stores.specs.Meaning.{Meaning}
-use Rattle.table.specs.declared.faults.TableFault.{TableFault}
 use Rattle.table.specs.declared.faults.TableFault.TheVariants.{Bytes, Output}
 use Rattle.table.specs.Yards.{yard_of}
 use Rattle.table.specs.Levels.{size}
 use Rattle.table.specs.Evening.{Settled}
 use Rattle.table.specs.Calls.{model_of, first, ◌⇒◌}
 use Rattle.table.specs.Files.{pair_file, pair_count, file_refusal, FilePromised}
-use Rattle.table.proofs.Refusing.{some_none, applies, passes}
+use Rattle.table.proofs.Refusing.{some_none, passes}
 use Rattle.table.proofs.Accepting.{same_yard}
 use Rattle.table.proofs.Writing.{file_length}
 
 module _ (L : Limits) (bytes : ℕ) (m : Meaning) (room : ℕ) (out : List ℕ) where
-  refused_by : (f : TableFault) (r : Result ℕ TableFault) → file_refusal (model_of m room) bytes (length out) ≡ Some f → r ≡ Err f → FilePromised L bytes m m room room out out r
-  refused_by f r e is = record {
-    refused = λ g h. let k : f ≡ g = cc in (record { fault = is ∙ ap Err k; meaning = refl; room_same = refl }, refl);
-    accepted = λ h. absurd (some_none f (sym e ∙ h));
-  }
-
-  pub file_bytes : bytes < size m → (f : TableFault) (r : Result ℕ TableFault) → f ≡ Bytes bytes → r ≡ Err f → FilePromised L bytes m m room room out out r
-  file_bytes h f r e is =
-      refused_by f r
-      (applies (ltb bytes (size m)) (Bytes bytes) (ltb (length out) (4 * pair_count (yard_of m)) ⇒ Output (length out) ∷ []) (lt-ltb bytes (size m) h) ∙ ap Some (sym e)) is
-
   past : size m ≤ bytes → file_refusal (model_of m room) bytes (length out) ≡ first (ltb (length out) (4 * pair_count (yard_of m)) ⇒ Output (length out) ∷ [])
   past h = passes (ltb bytes (size m)) (Bytes bytes) (ltb (length out) (4 * pair_count (yard_of m)) ⇒ Output (length out) ∷ []) (le-ltb bytes (size m) h)
 

@@ -11,8 +11,8 @@ use Rattle.blocks.proofs.Yards.{reach_is_block, chain_block}
 use Rattle.stores.specs.Meaning.{Meaning, Bounded}
 use Rattle.table.specs.declared.queues.Queue.{Queue}
 use Rattle.table.specs.Yards.{yard_of, sides_of}
-use Rattle.table.specs.Searches.{node, marked}
-use Rattle.table.specs.Levels.{size, load_of, Upward, Clear, Descended}
+use Rattle.table.specs.Searches.{len, node, marked}
+use Rattle.table.specs.Levels.{size, load_of, Clear, Descended}
 use Rattle.table.specs.Evening.{EvenSides}
 use Rattle.table.specs.Reports.{BlockMarked}
 use Rattle.table.proofs.Descending.{sized}
@@ -25,9 +25,6 @@ pub block_marked : (m : Meaning) (L : Limits) → Rising L → Bounded m → Eve
 block_marked m L rising bounded even a la q marks (Some v) d n w = absurd (both_ways false refl (d.finds v.0 v.1 refl).3)
 block_marked m L rising bounded even a la q marks None d n w =
     reach_is_block (yard_of m) L (sides_of m) rising (sized m bounded) even a (omega arith) (marked marks) ((d.misses refl).1 (omega arith)) n w
-
-pub one_upward : (x : ℕ) → Upward (λ _ n. eqb n x)
-one_upward x a c n h l e = e
 
 module _ (m : Meaning) (L : Limits) (rising : Rising L) (bounded : Bounded m) (even : EvenSides m L) (x : ℕ) (lx : x < size m) (q : Queue) (marks : List ℕ) where
   -- at a level that is clear the node is not in the block
@@ -44,7 +41,7 @@ module _ (m : Meaning) (L : Limits) (rising : Rising L) (bounded : Bounded m) (e
     la : a < 256
     la = (d.finds a place refl).1
 
-    lp : place < q.len
+    lp : place < len q
     lp = (d.finds a place refl).2
 
     here : node q place ≡ x

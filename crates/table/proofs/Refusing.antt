@@ -1,21 +1,18 @@
 -- Which reason to refuse applies first, and what a refused call promises.
-use Rattle.std.proofs.Common.{◌≡◌, ℕ, ◌<◌, ◌≤◌, Bool, true, false, not, eqb, ltb, leb, List, [], ◌∷◌, Some, None, Ok, Err, Result, sym, refl, ap, ◌∙◌, inl, inr, arith}
-use Rattle.std.proofs.lemmas.Bool.{cases_lt, both_ways, lt-ltb, le-ltb, le-leb, lt-leb, leb-false, eqb-false, not-false, cond-true, cond-false}
-use Rattle.blocks.specs.Limits.{Limits}
-use Rattle.stores.specs.Meaning.{Meaning, stands}
+use Rattle.std.proofs.Common.{◌≡◌, ℕ, ◌<◌, ◌≤◌, Bool, true, false, not, eqb, ltb, leb, List, [], ◌∷◌, Some, None, Ok, refl, ◌∙◌, inl, inr, arith, Option}
+use Rattle.std.proofs.lemmas.Bool.{cases_lt, both_ways, lt-ltb, le-ltb, lt-leb, leb-false, eqb-false, not-false, cond-true, cond-false}
+use Rattle.stores.specs.Meaning.{Meaning, pair, stands}
 use Rattle.stores.specs.Promises.{Told}
-use Rattle.stores.specs.declared.pairs.Standing.{Standing}
-use Rattle.stores.specs.declared.pairs.Standing.TheVariants.{Absent, Bus, Post}
-use Rattle.stores.specs.declared.faults.StoreFault.{StoreFault}
+use Rattle.stores.specs.declared.pairs.Side.{Side}
+use Rattle.stores.specs.declared.pairs.Side.TheVariants.{Bus, Post}
 use Rattle.stores.specs.declared.faults.StoreFault.TheVariants.{NoBus, NoPost, Stands, Absent as NotStanding, Full}
 use Rattle.table.specs.declared.faults.TableFault.{TableFault}
-use Rattle.table.specs.declared.faults.TableFault.TheVariants.{Level, Bytes, Node, Store}
+use Rattle.table.specs.declared.faults.TableFault.TheVariants.{Level, Bytes, Store}
 use Rattle.table.specs.declared.calls.Call.{Call}
 use Rattle.table.specs.declared.calls.Call.TheVariants.{Add, Drop}
-use Rattle.table.specs.declared.calls.Answer.{Answer}
 use Rattle.table.specs.Levels.{size}
 use Rattle.table.specs.Updates.{Addable, Droppable}
-use Rattle.table.specs.Calls.{model_of, Reason, ◌⇒◌, first, reasons, refusal, Promised}
+use Rattle.table.specs.Calls.{model_of, Reason, ◌⇒◌, first, reasons, refusal}
 
 -- a reason that applies is the first; one that does not is passed over
 pub applies : (t : Bool) (f : TableFault) (rs : List Reason) → t ≡ true → first (t ⇒ f ∷ rs) ≡ Some f
@@ -39,25 +36,11 @@ module _ (m : Meaning) (room bytes : ℕ) (c : Call) where
   pub long : size m ≤ bytes → refusal (model_of m room) bytes c ≡ first (reasons (model_of m room) c)
   long h = passes (ltb bytes (size m)) (Bytes bytes) (reasons (model_of m room) c) (le-ltb bytes (size m) h)
 
--- a refusal changes nothing, and is what the call promises
-module _ {A : Type 0} (reply : A → Answer) (L : Limits) (bytes : ℕ) (c : Call) (m : Meaning) (room : ℕ) (f : TableFault) (r : Result A TableFault) where
-  refused_by : refusal (model_of m room) bytes c ≡ Some f → r ≡ Err f → Promised reply L bytes c m m room room r
-  refused_by e is = record {
-    refused = λ g h. let k : f ≡ g = cc in record { fault = is ∙ ap Err k; meaning = refl; room_same = refl };
-    accepted = λ h. absurd (some_none f (sym e ∙ h));
-  }
-
-  pub refused_bytes : bytes < size m → f ≡ Bytes bytes → r ≡ Err f → Promised reply L bytes c m m room room r
-  refused_bytes h e is = refused_by (short m room bytes c h ∙ ap Some (sym e)) is
-
-  pub refused_first : size m ≤ bytes → first (reasons (model_of m room) c) ≡ Some f → r ≡ Err f → Promised reply L bytes c m m room room r
-  refused_first h e is = refused_by (long m room bytes c h ∙ e) is
-
 -- how a pair stands tells whether it does
-pub standing_false : (s : Standing) → stands s ≡ false → s ≡ Absent
-standing_false Absent h = refl
-standing_false Bus h = absurd (both_ways true h refl)
-standing_false Post h = absurd (both_ways true h refl)
+pub standing_false : (s : Option Side) → stands s ≡ false → s ≡ None
+standing_false None h = refl
+standing_false (Some Bus) h = absurd (both_ways true h refl)
+standing_false (Some Post) h = absurd (both_ways true h refl)
 
 nonzero : (n : ℕ) → (n ≡ 0 → ⊥) → 0 < n
 nonzero n h = elim (cases_lt 0 n) [
@@ -67,29 +50,14 @@ nonzero n h = elim (cases_lt 0 n) [
 
 -- the reasons that name a pair, by what a store tells of it
 module _ (m : Meaning) (b p : ℕ) (rs : List Reason) where
-  bus_in : b < m.buses → first (leb m.buses b ⇒ Store (NoBus b p) ∷ leb m.posts p ⇒ Store (NoPost b p) ∷ rs) ≡ first (leb m.posts p ⇒ Store (NoPost b p) ∷ rs)
-  bus_in h = passes (leb m.buses b) (Store (NoBus b p)) (leb m.posts p ⇒ Store (NoPost b p) ∷ rs) (lt-leb m.buses b h)
+  bus_in : b < m.buses → first (leb m.buses b ⇒ Store (NoBus (pair b p)) ∷ leb m.posts p ⇒ Store (NoPost (pair b p)) ∷ rs) ≡ first (leb m.posts p ⇒ Store (NoPost (pair b p)) ∷ rs)
+  bus_in h = passes (leb m.buses b) (Store (NoBus (pair b p))) (leb m.posts p ⇒ Store (NoPost (pair b p)) ∷ rs) (lt-leb m.buses b h)
 
-  post_in : p < m.posts → first (leb m.posts p ⇒ Store (NoPost b p) ∷ rs) ≡ first rs
-  post_in h = passes (leb m.posts p) (Store (NoPost b p)) rs (lt-leb m.posts p h)
+  post_in : p < m.posts → first (leb m.posts p ⇒ Store (NoPost (pair b p)) ∷ rs) ≡ first rs
+  post_in h = passes (leb m.posts p) (Store (NoPost (pair b p))) rs (lt-leb m.posts p h)
 
-  pub told_fault : (f : StoreFault) → Told m b p (Err f) → first (leb m.buses b ⇒ Store (NoBus b p) ∷ leb m.posts p ⇒ Store (NoPost b p) ∷ rs) ≡ Some (Store f)
-  told_fault f t = elim (cases_lt b m.buses) [
-    | inr h ↦
-        let e = t.no_bus h in
-        let k : NoBus b p ≡ f = cc in
-        applies (leb m.buses b) (Store (NoBus b p)) (leb m.posts p ⇒ Store (NoPost b p) ∷ rs) (le-leb m.buses b h) ∙ ap (λ g. Some (Store g)) k
-    | inl h ↦ elim (cases_lt p m.posts) [
-      | inr j ↦
-          let e = t.no_post h j in
-          let k : NoPost b p ≡ f = cc in
-          bus_in h ∙ applies (leb m.posts p) (Store (NoPost b p)) rs (le-leb m.posts p j) ∙ ap (λ g. Some (Store g)) k
-      | inl j ↦ let e = t.tells h j in let z : ◌≡◌ {A = ℕ} 0 1 = cc in absurd (omega arith)
-    ]
-  ]
-
-  pub told_standing : (s : Standing) → Told m b p (Ok s)
-      → (first (leb m.buses b ⇒ Store (NoBus b p) ∷ leb m.posts p ⇒ Store (NoPost b p) ∷ rs) ≡ first rs) × (b < m.buses) × (p < m.posts) × (m.standing b p ≡ s)
+  pub told_standing : (s : Option Side) → Told m b p (Ok s)
+      → (first (leb m.buses b ⇒ Store (NoBus (pair b p)) ∷ leb m.posts p ⇒ Store (NoPost (pair b p)) ∷ rs) ≡ first rs) × (b < m.buses) × (p < m.posts) × (m.standing b p ≡ s)
   told_standing s t = elim (cases_lt b m.buses) [
     | inr h ↦ let e = t.no_bus h in let z : ◌≡◌ {A = ℕ} 0 1 = cc in absurd (omega arith)
     | inl h ↦ elim (cases_lt p m.posts) [
@@ -98,34 +66,25 @@ module _ (m : Meaning) (b p : ℕ) (rs : List Reason) where
     ]
   ]
 
-  pub pair_named : first (leb m.buses b ⇒ Store (NoBus b p) ∷ leb m.posts p ⇒ Store (NoPost b p) ∷ rs) ≡ None → (b < m.buses) × (p < m.posts) × (first rs ≡ None)
+  pub pair_named : first (leb m.buses b ⇒ Store (NoBus (pair b p)) ∷ leb m.posts p ⇒ Store (NoPost (pair b p)) ∷ rs) ≡ None → (b < m.buses) × (p < m.posts) × (first rs ≡ None)
   pair_named e =
-      let x = none_applies (leb m.buses b) (Store (NoBus b p)) (leb m.posts p ⇒ Store (NoPost b p) ∷ rs) e in
-      let y = none_applies (leb m.posts p) (Store (NoPost b p)) rs x.1 in
+      let x = none_applies (leb m.buses b) (Store (NoBus (pair b p))) (leb m.posts p ⇒ Store (NoPost (pair b p)) ∷ rs) e in
+      let y = none_applies (leb m.posts p) (Store (NoPost (pair b p))) rs x.1 in
       (leb-false m.buses b x.0, leb-false m.posts p y.0, y.1)
 
 module _ (m : Meaning) (room b p : ℕ) where
-  pub add_checked : first (reasons (model_of m room) (Add b p)) ≡ None → Addable m room b p
+  pub add_checked : first (reasons (model_of m room) (Add (pair b p))) ≡ None → Addable m room b p
   add_checked e =
-      let x = pair_named m b p (stands (m.standing b p) ⇒ Store (Stands b p) ∷ eqb room 0 ⇒ Store (Full b p) ∷ []) e in
-      let y = none_applies (stands (m.standing b p)) (Store (Stands b p)) (eqb room 0 ⇒ Store (Full b p) ∷ []) x.2 in
-      let z = none_applies (eqb room 0) (Store (Full b p)) [] y.1 in
+      let x = pair_named m b p (stands (m.standing b p) ⇒ Store (Stands (pair b p)) ∷ eqb room 0 ⇒ Store (Full (pair b p)) ∷ []) e in
+      let y = none_applies (stands (m.standing b p)) (Store (Stands (pair b p))) (eqb room 0 ⇒ Store (Full (pair b p)) ∷ []) x.2 in
+      let z = none_applies (eqb room 0) (Store (Full (pair b p))) [] y.1 in
       record { bus = x.0; post = x.1; absent = standing_false (m.standing b p) y.0; place = nonzero room (eqb-false room 0 z.0) }
 
-  pub drop_checked : first (reasons (model_of m room) (Drop b p)) ≡ None → Droppable m b p
+  pub drop_checked : first (reasons (model_of m room) (Drop (pair b p))) ≡ None → Droppable m b p
   drop_checked e =
-      let x = pair_named m b p (not (stands (m.standing b p)) ⇒ Store (NotStanding b p) ∷ []) e in
-      let y = none_applies (not (stands (m.standing b p))) (Store (NotStanding b p)) [] x.2 in
+      let x = pair_named m b p (not (stands (m.standing b p)) ⇒ Store (NotStanding (pair b p)) ∷ []) e in
+      let y = none_applies (not (stands (m.standing b p))) (Store (NotStanding (pair b p))) [] x.2 in
       record { bus = x.0; post = x.1; held = not-false (stands (m.standing b p)) y.0 }
 
 pub level_passes : (a : ℕ) → a ≤ 255 → first (ltb 255 a ⇒ Level a ∷ []) ≡ None
 level_passes a h = passes (ltb 255 a) (Level a) [] (le-ltb 255 a h)
-
-pub level_refused : (a : ℕ) → 255 < a → first (ltb 255 a ⇒ Level a ∷ []) ≡ Some (Level a)
-level_refused a h = applies (ltb 255 a) (Level a) [] (lt-ltb 255 a h)
-
-pub node_passes : (size n : ℕ) → n < size → first (leb size n ⇒ Node n ∷ []) ≡ None
-node_passes size n h = passes (leb size n) (Node n) [] (lt-leb size n h)
-
-pub node_refused : (size n : ℕ) → size ≤ n → first (leb size n ⇒ Node n ∷ []) ≡ Some (Node n)
-node_refused size n h = applies (leb size n) (Node n) [] (le-leb size n h)

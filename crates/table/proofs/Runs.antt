@@ -1,7 +1,7 @@
 -- A list of calls made one after the other.
 use Rattle.std.proofs.Common.{◌≡◌, ℕ, ◌+◌, ◌<◌, ◌≤◌, min, List, [], ◌∷◌, ◌++◌, length, get_or, take, set, Some, None, Option, Result, sym, refl, ap, ◌∙◌, subst, inl, inr, arith}
 use Rattle.std.proofs.lemmas.Bool.{cases_lt}
-use Rattle.std.proofs.lemmas.List.{take_more, take_more_set, take_all}
+use Rattle.std.proofs.lemmas.List.{take_more, take_more_set}
 use Rattle.blocks.specs.Limits.{Limits}
 use Rattle.stores.specs.Meaning.{Meaning, Bounded}
 use Rattle.table.specs.declared.faults.TableFault.{TableFault}
@@ -13,7 +13,7 @@ use Rattle.table.specs.declared.calls.Entry.{Entry}
 use Rattle.table.specs.Levels.{size}
 use Rattle.table.specs.Evening.{EvenSides}
 use Rattle.table.specs.Calls.{Model, model_of, refusal, Accepted, Promised}
-use Rattle.table.specs.Lists.{Held, held, Step, Run, done, call, ListMade}
+use Rattle.table.specs.Lists.{Held, held, Step, Run, done, call}
 use Rattle.table.proofs.Refusing.{long}
 
 -- no yard has more than 512 nodes, so that more working bytes make no difference
@@ -64,9 +64,6 @@ module _ {L K : Limits} (e : L ≡ K) where
   pub step_under : {M N : Model} {s t : Held} {c d : Entry} → Step L M s c d N t → Step K M s c d N t
   step_under {M = M} {N = N} {s = s} {t = t} {c = c} {d = d} k = subst (λ l. Step l M s c d N t) e k
 
-  pub run_under : {M N : Model} {s t : Held} {cs ds : List Entry} → Run L M s cs ds N t → Run K M s cs ds N t
-  run_under {M = M} {N = N} {s = s} {t = t} {cs = cs} {ds = ds} r = subst (λ l. Run l M s cs ds N t) e r
-
 module _ (L : Limits) where
   run_last : {M N O : Model} {s t u : Held} {cs ds : List Entry} {c d : Entry} → Run L M s cs ds N t → Step L N t c d O u → Run L M s (cs ++ c ∷ []) (ds ++ d ∷ []) O u
   run_last done h = call h done
@@ -79,25 +76,7 @@ module _ (L : Limits) where
       let b : take (i + 1) (set made i d) ≡ take i made ++ d ∷ [] = take_more_set made i d (omega arith) in
       rw (a, b) (run_last r k)
 
-  pub run_whole : {M N : Model} {s t : Held} (asked made : List Entry) (n : ℕ) → length asked ≤ n → length made ≤ n → Run L M s (take n asked) (take n made) N t → Run L M s asked made N t
-  run_whole asked made n h k r = rw (take_all n asked h, take_all n made k) at r
-
 -- settling over 512 working bytes is never refused
 pub settles : (L : Limits) (m k : Meaning) (room room₁ : ℕ) (r : Result (Unit {0}) TableFault) → Bounded m → Promised (λ _. Done) L 512 Settle m k room room₁ r
     → Accepted (λ _. Done) L Settle m k room room₁ r
 settles L m k room room₁ r b p = p.accepted (long m room 512 Settle (small m b))
-
--- the sides were made even first, and then the calls were made
-pub list_made : (L : Limits) (m k n : Meaning) (room room₁ room' : ℕ) (r : Result (Unit {0}) TableFault) (asked made : List Entry)
-    → Accepted (λ _. Done) L Settle m k room room₁ r → Run L (model_of k room₁) (held k room₁) asked made (model_of n room') (held n room') → EvenSides n L
-    → ListMade L (held m room) (held n room') asked made
-list_made L m k n room room₁ room' r asked made a run even = record {
-  start = held k room₁;
-  fed = a.model;
-  evened = a.even;
-  unturned = a.sides;
-  last = model_of n room';
-  run = subst (λ M. Run L M (held k room₁) asked made (model_of n room') (held n room')) a.model run;
-  holds = refl;
-  even = even;
-}

@@ -1,19 +1,18 @@
 -- One bus after the other made right.
-use Rattle.std.proofs.Common.{◌≡◌, ℕ, ◌+◌, ◌<◌, ◌≤◌, min, sym, refl, ap, ◌∙◌, subst, inl, inr, arith}
+use Rattle.std.proofs.Common.{◌≡◌, ℕ, ◌+◌, ◌<◌, ◌≤◌, min, sym, refl, ap, ◌∙◌, subst, inl, inr, arith, Some, None, Option}
 use Rattle.std.proofs.lemmas.Bool.{cases_eq}
 use Rattle.blocks.specs.Sums.{sum, bit}
 use Rattle.blocks.specs.Limits.{Limits}
 use Rattle.blocks.proofs.Sums.{sum_add, sum_cong}
 use Rattle.stores.specs.Meaning.{Meaning, stands}
-use Rattle.stores.specs.declared.pairs.Standing.{Standing}
-use Rattle.stores.specs.declared.pairs.Standing.TheVariants.{Absent, Bus, Post}
+use Rattle.stores.specs.declared.pairs.Side.{Side}
 use Rattle.stores.specs.declared.pairs.Side.TheVariants.{Bus as bus_side, Post as post_side}
 use Rattle.table.specs.Buses.{is_on, on_side, pairs_of, SomeTurned, BusSettled, BusesRight, SamePairs, BusesSettled}
 
-one_side : (s : Standing) → bit (stands s) ≡ bit (is_on bus_side s) + bit (is_on post_side s)
-one_side Absent = refl
-one_side Bus = refl
-one_side Post = refl
+one_side : (s : Option Side) → bit (stands s) ≡ bit (is_on bus_side s) + bit (is_on post_side s)
+one_side None = refl
+one_side (Some bus_side) = refl
+one_side (Some post_side) = refl
 
 -- each pair is on one side
 pub both_sides : (m : Meaning) (b : ℕ) → pairs_of m b ≡ on_side m bus_side b + on_side m post_side b
@@ -47,14 +46,6 @@ pub record SettlingBuses (m n : Meaning) (L : Limits) (k : ℕ) : Type 0 where
   pub right : (b : ℕ) → b < k → on_side n bus_side b ≡ min (L.bus b) (pairs_of m b)
   pub rest : (b p : ℕ) → k ≤ b → n.standing b p ≡ m.standing b p
   pub same : BusesRight m L → n ≡ m
-
-pub settling_none : (m : Meaning) (L : Limits) → SettlingBuses m m L 0
-settling_none m L = record {
-  pairs = record { buses = refl; posts = refl; same = λ c p. refl };
-  right = λ b l. absurd (omega arith);
-  rest = λ b p _. refl;
-  same = λ _. refl;
-}
 
 -- the counts of a bus whose pairs stand alike
 on_same : (m n : Meaning) (b : ℕ) → n.posts ≡ m.posts → ((p : ℕ) → n.standing b p ≡ m.standing b p) → on_side n bus_side b ≡ on_side m bus_side b

@@ -1,5 +1,5 @@
 -- The way back from a place of the queue, and the pairs on it turned one after the other.
-use Rattle.std.proofs.Common.{◌≡◌, ℕ, zero, suc, ◌+◌, ◌-◌, ◌<◌, ◌≤◌, Bool, true, false, cond, not, ◌&&◌, ◌||◌, eqb, List, [], ◌∷◌, Result, sym, refl, ap, ◌∙◌, subst, ap₂, inl, inr, arith}
+use Rattle.std.proofs.Common.{◌≡◌, ℕ, zero, suc, ◌+◌, ◌-◌, ◌<◌, Bool, true, false, cond, not, ◌&&◌, ◌||◌, eqb, List, [], ◌∷◌, sym, refl, ap, ◌∙◌, subst, ap₂, inl, inr, arith, Some, None, Option}
 use mathlib.Core.Path.{fun_ext}
 use Rattle.std.proofs.lemmas.Bool.{cases_Bool, cases_eq, cases_lt, both_ways, eqb-true, and_parts}
 use Rattle.std.proofs.lemmas.Bool.Decides.{nat_tests}
@@ -7,18 +7,16 @@ use Rattle.blocks.specs.Chains.{NoneOf, next_in}
 use Rattle.blocks.specs.Sides.{in_chain}
 use Rattle.blocks.proofs.Chains.{next_absent}
 use Rattle.blocks.proofs.Flips.{low, high, from_bus, from_post}
-use Rattle.stores.specs.Meaning.{Meaning, Bounded, put, other, stands, by_post}
-use Rattle.stores.specs.Promises.{Turned}
-use Rattle.stores.specs.declared.faults.StoreFault.{StoreFault}
-use Rattle.stores.specs.declared.pairs.Standing.{Standing}
-use Rattle.stores.specs.declared.pairs.Standing.TheVariants.{Absent, Bus, Post}
+use Rattle.stores.specs.Meaning.{Meaning, put, other, stands, by_post}
+use Rattle.stores.specs.declared.pairs.Side.{Side}
+use Rattle.stores.specs.declared.pairs.Side.TheVariants.{Bus, Post}
 use Rattle.table.specs.Yards.{leads_of, joined, along, yard_of, sides_of}
 use Rattle.table.specs.declared.queues.Queue.{Queue}
-use Rattle.table.specs.Searches.{node, from, Ends, PairTurned, Trail, at_start, earlier, OverPairs, TurnedBack}
+use Rattle.table.specs.Searches.{len, node, from, Ends, PairTurned, Trail, at_start, earlier, OverPairs, TurnedBack}
 
 module _ (m : Meaning) (q : Queue) (over : OverPairs m q) where
   -- there is a way back from each place
-  pub trail_from : (fuel i : ℕ) → i < fuel → i < q.len → (vs : List ℕ) × Trail q i vs
+  pub trail_from : (fuel i : ℕ) → i < fuel → i < len q → (vs : List ℕ) × Trail q i vs
   trail_from zero i f l = absurd (omega arith)
   trail_from (suc fuel) i f l = elim (over.paired i l) [
     | inl e ↦ ([], at_start e)
@@ -26,7 +24,7 @@ module _ (m : Meaning) (q : Queue) (over : OverPairs m q) where
   ]
 
   -- a node found later is not on it
-  pub trail_none : {i : ℕ} {vs : List ℕ} → Trail q i vs → (j : ℕ) → i < j → j < q.len → NoneOf (node q j) (node q i ∷ vs)
+  pub trail_none : {i : ℕ} {vs : List ℕ} → Trail q i vs → (j : ℕ) → i < j → j < len q → NoneOf (node q j) (node q i ∷ vs)
   trail_none {i} (at_start e) j h l = ((λ s. let k = over.once j i l (omega arith) s in omega arith), tt)
   trail_none {i} (earlier k t) j h l = ((λ s. let z = over.once j i l (omega arith) s in omega arith), trail_none t j (omega arith) l)
 
@@ -70,7 +68,7 @@ module _ (m : Meaning) (x y : ℕ) (ws : List ℕ) (b p : ℕ) (ends : Ends m.bu
     | inr e ↦ let i = e.0 in let j = e.1 in grind (arith, nat_tests)
   ]
 
-  at_pair : (i j : Bool) (s : Standing) → i ≡ false → j ≡ true → cond i (other (other s)) (other s) ≡ cond j (other s) s
+  at_pair : (i j : Bool) (s : Option Side) → i ≡ false → j ≡ true → cond i (other (other s)) (other s) ≡ cond j (other s) s
   at_pair i j s e f = ap (λ t. cond t (other (other s)) (other s)) e ∙ sym (ap (λ t. cond t (other s) s) f)
 
   hit : eqb b b && eqb p p ≡ true
@@ -90,14 +88,14 @@ module _ (m : Meaning) (x y : ℕ) (ws : List ℕ) (b p : ℕ) (ends : Ends m.bu
     | inr e ↦ off (eqb c b && eqb q p) (in_chain m.buses y ws c q) (in_chain m.buses x (y ∷ ws) c q) (other (m.standing b p)) (m.standing c q) (grind (arith, nat_tests)) (elsewhere c q (λ g _. e g))
   ]
     where
-      off : (t i j : Bool) (r s : Standing) → t ≡ false → j ≡ i → cond i (other (cond t r s)) (cond t r s) ≡ cond j (other s) s
+      off : (t i j : Bool) (r s : Option Side) → t ≡ false → j ≡ i → cond i (other (cond t r s)) (cond t r s) ≡ cond j (other s) s
       off t i j r s e f = ap (λ k. cond i (other (cond k r s)) (cond k r s)) e ∙ sym (ap (λ k. cond k (other s) s) f)
 
   pub step_turned : along y ws (put b p (other (m.standing b p)) m) ≡ along x (y ∷ ws) m
   step_turned i = record { buses = m.buses; posts = m.posts; standing = fun_ext (λ c. fun_ext (λ q. at c q)) i }
 
 -- two nodes that are paired are a bus and a post of a pair that stands
-pub pair_of : (m : Meaning) (x y : ℕ) → joined m x y ≡ true → (b : ℕ) × (p : ℕ) × Ends m.buses x y b p × (b < m.buses) × (m.standing b p ≡ Absent → ⊥)
+pub pair_of : (m : Meaning) (x y : ℕ) → joined m x y ≡ true → (b : ℕ) × (p : ℕ) × Ends m.buses x y b p × (b < m.buses) × (m.standing b p ≡ None → ⊥)
 pair_of m x y h = elim (cases_lt x m.buses) [
   | inl xb ↦ elim (cases_lt y m.buses) [
     | inl yb ↦ let e = low m.buses (yard_of m).paired (sides_of m) x y xb yb in let f = low m.buses (yard_of m).paired (sides_of m) y x yb xb in absurd (grind arith)
@@ -115,7 +113,7 @@ pair_of m x y h = elim (cases_lt x m.buses) [
   ]
 ]
   where
-    absent_not : (s : Standing) → s ≡ Absent → stands s ≡ true → ⊥
+    absent_not : (s : Option Side) → s ≡ None → stands s ≡ true → ⊥
     absent_not s a e = both_ways (stands s) (ap stands a) e
 
     stands_by : (p t : Bool) → joined m x y ≡ true → leads_of m x y ≡ (p && t) → leads_of m y x ≡ (p && not t) → p ≡ true
@@ -124,26 +122,10 @@ pair_of m x y h = elim (cases_lt x m.buses) [
     stands_by2 : (p t : Bool) → joined m x y ≡ true → leads_of m x y ≡ (p && not t) → leads_of m y x ≡ (p && t) → p ≡ true
     stands_by2 p t h e f = grind arith
 
--- the store's turn of that pair
-pub pair_turned : (m n : Meaning) (room room' x y : ℕ) (r : Result (Unit {0}) StoreFault) → Bounded m → joined m x y ≡ true → m.buses ≤ x → Turned m n room room' y (x - m.buses) r
-    → (room' ≡ room) × PairTurned m n x y
-pair_turned m n room room' x y r bounded h bx t =
-    let o = pair_of m x y h in
-    let same = post_first m.buses x y o.0 o.1 bx o.2 o.3 in
-    let stands-there : m.standing y (x - m.buses) ≡ Absent → ⊥ = λ a. o.4 (subst (λ b. m.standing b o.1 ≡ Absent) (sym same.0) (subst (λ p. m.standing y p ≡ Absent) (sym same.1) a)) in
-    let lb : y < m.buses = elim (cases_lt y m.buses) [ inl l ↦ l | inr l ↦ absurd (stands-there (bounded.no_bus y (x - m.buses) l)) ] in
-    let lp : x - m.buses < m.posts = elim (cases_lt (x - m.buses) m.posts) [ inl l ↦ l | inr l ↦ absurd (stands-there (bounded.no_post y (x - m.buses) l)) ] in
-    let d = t.turns lb lp stands-there in
-    (d.1, record { bus = y; post = x - m.buses; ends = inr (omega arith, refl); within = lb; changes = d.0.meaning })
-  where
-    post_first : (B x y b p : ℕ) → B ≤ x → Ends B x y b p → b < B → (b ≡ y) × (p ≡ x - B)
-    post_first B x y b p h (inl e) l = absurd (omega (arith, e.0))
-    post_first B x y b p h (inr e) l = (sym e.1, omega (arith, e.0))
-
-other_stands : (t : Standing) → stands (other t) ≡ stands t
-other_stands Absent = refl
-other_stands Bus = refl
-other_stands Post = refl
+other_stands : (t : Option Side) → stands (other t) ≡ stands t
+other_stands None = refl
+other_stands (Some Bus) = refl
+other_stands (Some Post) = refl
 
 -- a pair turned is a pair still
 pub turned_joined : (n : Meaning) (b p : ℕ) → b < n.buses → (x y : ℕ) → joined (put b p (other (n.standing b p)) n) x y ≡ joined n x y
@@ -199,7 +181,7 @@ turned_joined n b p lb x y = elim (cases_lt x n.buses) [
 
 -- On the way back: the pairs that still are to be turned, and that turning them gives what turning all of them at the start gives.
 pub record TurningBack (m : Meaning) (q : Queue) (place : ℕ) (n : Meaning) (at : ℕ) : Type 0 where
-  pub reached : at < q.len
+  pub reached : at < len q
   pub same_pairs : (x y : ℕ) → joined n x y ≡ joined m x y
   pub whole : List ℕ
   pub is_whole : Trail q place whole
@@ -208,19 +190,12 @@ pub record TurningBack (m : Meaning) (q : Queue) (place : ℕ) (n : Meaning) (at
   pub agree : along (node q at) left n ≡ along (node q place) whole m
 
 module _ (m : Meaning) (q : Queue) (place : ℕ) (over : OverPairs m q) where
-  pub turning_none : place < q.len → TurningBack m q place m place
+  pub turning_none : place < len q → TurningBack m q place m place
   turning_none l =
       let t = trail_from m q over (suc place) place (omega arith) l in
       record { reached = l; same_pairs = λ x y. refl; whole = t.0; is_whole = t.1; left = t.0; is_left = t.1; agree = refl }
 
   module _ (n : Meaning) (at : ℕ) (b : TurningBack m q place n at) where
-    -- the node before is paired with this one
-    pub pair_next : (from q at ≡ at → ⊥) → (from q at < at) × (joined n (node q (from q at)) (node q at) ≡ true)
-    pair_next d = elim (over.paired at b.reached) [
-      | inl e ↦ absurd (d e)
-      | inr h ↦ (h.0, b.same_pairs (node q (from q at)) (node q at) ∙ h.1)
-    ]
-
     pub turning_more : (from q at ≡ at → ⊥) → (k : Meaning) → PairTurned n k (node q (from q at)) (node q at) → TurningBack m q place k (from q at)
     turning_more d k t =
         let g = goes_on q at b.left b.is_left d in

@@ -1,11 +1,9 @@
 -- Pairs of one bus turned from one side to the other, one after the other.
-use Rattle.std.proofs.Common.{◌≡◌, ℕ, ◌+◌, ◌-◌, ◌<◌, ◌≤◌, true, false, cond, eqb, sym, refl, ap, ◌∙◌, subst, inl, inr, arith}
+use Rattle.std.proofs.Common.{◌≡◌, ℕ, ◌+◌, ◌-◌, ◌<◌, ◌≤◌, true, false, cond, eqb, sym, refl, ap, ◌∙◌, subst, inl, inr, arith, Some, None, Option}
 use Rattle.std.proofs.lemmas.Bool.{cases_eq, both_ways, eq-eqb, ne_eqb, and_from, and_left, and_right}
 use Rattle.blocks.specs.Sums.{bit}
 use Rattle.blocks.proofs.Sums.{sum_one, sum_none}
 use Rattle.stores.specs.Meaning.{Meaning, put, other, stands}
-use Rattle.stores.specs.declared.pairs.Standing.{Standing}
-use Rattle.stores.specs.declared.pairs.Standing.TheVariants.{Absent, Bus, Post}
 use Rattle.stores.specs.declared.pairs.Side.{Side}
 use Rattle.stores.specs.declared.pairs.Side.TheVariants.{Bus as bus_side, Post as post_side}
 use Rattle.table.specs.Buses.{is_on, on_side, OnlyBus, SomeTurned}
@@ -28,15 +26,15 @@ turning_some_none m b side count = record {
 }
 
 -- after turning, the other side has it
-turned_away : (side : Side) (s : Standing) → is_on side s ≡ true → (is_on side (other s) ≡ false) × (s ≡ Absent → ⊥) × (stands (other s) ≡ stands s)
-turned_away bus_side Absent e = absurd (both_ways false refl e)
-turned_away bus_side Bus e = (refl, (λ h. both_ways (stands Bus) (ap stands h) refl), refl)
-turned_away bus_side Post e = absurd (both_ways false refl e)
-turned_away post_side Absent e = absurd (both_ways false refl e)
-turned_away post_side Bus e = absurd (both_ways false refl e)
-turned_away post_side Post e = (refl, (λ h. both_ways (stands Post) (ap stands h) refl), refl)
+turned_away : (side : Side) (s : Option Side) → is_on side s ≡ true → (is_on side (other s) ≡ false) × (s ≡ None → ⊥) × (stands (other s) ≡ stands s)
+turned_away bus_side None e = absurd (both_ways false refl e)
+turned_away bus_side (Some bus_side) e = (refl, (λ h. both_ways (stands (Some bus_side)) (ap stands h) refl), refl)
+turned_away bus_side (Some post_side) e = absurd (both_ways false refl e)
+turned_away post_side None e = absurd (both_ways false refl e)
+turned_away post_side (Some bus_side) e = absurd (both_ways false refl e)
+turned_away post_side (Some post_side) e = (refl, (λ h. both_ways (stands (Some post_side)) (ap stands h) refl), refl)
 
-pub stands_on : (side : Side) (s : Standing) → is_on side s ≡ true → s ≡ Absent → ⊥
+pub stands_on : (side : Side) (s : Option Side) → is_on side s ≡ true → s ≡ None → ⊥
 stands_on side s e = (turned_away side s e).1
 
 module _ (m n : Meaning) (b : ℕ) (side : Side) (count left post : ℕ) (t : TurningSome m n b side count left post) where

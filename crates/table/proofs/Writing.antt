@@ -1,13 +1,11 @@
 -- Records written into an output, one behind the other.
-use Rattle.std.proofs.Common.{◌≡◌, ℕ, zero, suc, ◌+◌, ◌-◌, ◌*◌, ◌<◌, ◌≤◌, Bool, true, false, cond, List, [], ◌++◌, length, take, drop, sym, refl, ap, ◌∙◌, subst, ap₂, inl, inr, append_assoc, add-one, arith, length-append, length-drop, take-append-drop, length-take, drop-drop}
-use borrow.Rule.Slice.PartMut.{put_mid}
+use Rattle.std.proofs.Common.{◌≡◌, ℕ, zero, suc, ◌+◌, ◌*◌, ◌<◌, ◌≤◌, Bool, true, false, cond, List, [], ◌++◌, length, take, drop, sym, refl, ap, ◌∙◌, subst, inl, inr, append_assoc, add-one, arith, length-append, drop-drop, Option}
 use Rattle.std.proofs.lemmas.List.{append-nil}
-use Rattle.std.proofs.lemmas.Slice.{take-put_mid, drop-put_mid}
 use Rattle.std.proofs.lemmas.Bool.{cases_lt}
 use Rattle.blocks.specs.Sums.{sum, bit}
 use Rattle.blocks.proofs.Sums.{sum_more}
 use Rattle.stores.specs.Meaning.{Meaning, stands, by_post}
-use Rattle.stores.specs.declared.pairs.Standing.{Standing}
+use Rattle.stores.specs.declared.pairs.Side.{Side}
 use Rattle.stores.specs.declared.pairs.Side.TheVariants.{Bus as bus_side, Post as post_side}
 use Rattle.table.specs.Yards.{yard_of}
 use Rattle.table.specs.Buses.{on_side}
@@ -17,17 +15,6 @@ use Rattle.table.specs.Files.{word, four_bytes, entry, row, rows, pair_file, pai
 pub wrote_none : (out : List ℕ) (at : ℕ) → Wrote out at [] out at
 wrote_none out at = record { grown = omega arith; front = sym (append-nil (take at out)); behind = refl }
 
--- four bytes in the place of four
-pub wrote_part : (out : List ℕ) (at : ℕ) (more part : List ℕ) → at + 4 ≤ length out → length part ≡ length (take (at + 4 - at) (drop at out)) → part ≡ more
-    → Wrote out at more (put_mid at (at + 4 - at) out part) (at + 4)
-wrote_part out at more part h e is =
-    let k : length part ≡ 4 = e ∙ simp (length-take, length-drop) (omega arith) in
-    record {
-      grown = omega (arith, ap length is);
-      front = take-put_mid at (at + 4 - at) out part (at + 4) (omega arith) (omega arith) ∙ ap (λ t. take at out ++ t) is;
-      behind = drop-put_mid at (at + 4 - at) out part (at + 4) (omega arith) (omega arith) (omega arith);
-    }
-
 -- one text behind another
 pub wrote_then : {a b c : List ℕ} {i j k : ℕ} (xs ys : List ℕ) → Wrote a i xs b j → Wrote b j ys c k → Wrote a i (xs ++ ys) c k
 wrote_then {a = a} {b = b} {i = i} {j = j} {k = k} xs ys p q = record {
@@ -35,12 +22,6 @@ wrote_then {a = a} {b = b} {i = i} {j = j} {k = k} xs ys p q = record {
   front = q.front ∙ ap (λ t. t ++ ys) p.front ∙ append_assoc (take i a) xs ys;
   behind = q.behind ∙ subst (λ (n : ℕ). drop n b ≡ drop n a) (sym q.grown) (sym (drop-drop (length ys) j b) ∙ ap (drop (length ys)) p.behind ∙ drop-drop (length ys) j a);
 }
-
--- a text written from the beginning on
-pub wrote_whole : (a : List ℕ) (xs : List ℕ) (b : List ℕ) (k : ℕ) → Wrote a 0 xs b k → (k ≡ length xs) × (b ≡ xs ++ drop (length xs) a)
-wrote_whole a xs b k w =
-    let e : k ≡ length xs = omega (arith, w.grown) in
-    (e, sym (take-append-drop k b) ∙ ap₂ ◌++◌ w.front (w.behind ∙ ap (λ n. drop n a) e))
 
 -- a sum up to a place, with that place, is no more than the whole
 sum_below : (n : ℕ) (f : ℕ → ℕ) (k : ℕ) → k < n → sum k f + f k ≤ sum n f
@@ -52,7 +33,7 @@ sum_below (suc n) f k h = elim (cases_lt k n) [
 ]
 
 -- four bytes for each pair that stands
-entry_length : (b p : ℕ) (s : Standing) → length (entry b p s) ≡ 4 * bit (stands s)
+entry_length : (b p : ℕ) (s : Option Side) → length (entry b p s) ≡ 4 * bit (stands s)
 entry_length b p s = of_test (stands s)
   where
     of_test : (t : Bool) → length (cond t (four_bytes (word b p (by_post s))) []) ≡ 4 * bit t

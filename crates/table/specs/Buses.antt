@@ -1,14 +1,13 @@
 -- Pairs of one bus turned, and how many of them stand one way.
-use Rattle.std.specs.Prelude.{◌≡◌, ℕ, ◌+◌, ◌<◌, min, Bool, not, ◌&&◌, ◌≢◌}
+use Rattle.std.specs.Prelude.{◌≡◌, ℕ, ◌+◌, ◌<◌, min, Bool, not, ◌&&◌, ◌≢◌, Option}
 use Rattle.blocks.specs.Sums.{sum, bit}
 use Rattle.blocks.specs.Limits.{Limits}
 use Rattle.stores.specs.Meaning.{Meaning, stands, by_post}
-use Rattle.stores.specs.declared.pairs.Standing.{Standing}
 use Rattle.stores.specs.declared.pairs.Side.{Side}
 use Rattle.stores.specs.declared.pairs.Side.TheVariants.{Bus as bus_side, Post as post_side}
 
 -- this side carries the pair
-abbrev pub is_on : Side → Standing → Bool
+abbrev pub is_on : Side → Option Side → Bool
 is_on bus_side s = stands s && not (by_post s)
 is_on post_side s = by_post s
 

@@ -7,13 +7,12 @@ use Rattle.blocks.specs.Blocks.{block_at, shortfall_at}
 use Rattle.blocks.specs.Ranks.{rank, Raised, Lowered}
 use Rattle.blocks.specs.Sides.{OneChainTurned}
 use Rattle.stores.specs.Meaning.{Meaning}
-use Rattle.stores.specs.declared.pairs.Standing.{Standing}
-use Rattle.stores.specs.declared.pairs.Standing.TheVariants.{Absent}
+use Rattle.stores.specs.declared.pairs.Side.{Side}
 use Rattle.stores.specs.declared.faults.StoreFault.TheVariants.{NoBus, NoPost, Stands, Absent as NotStanding, Full}
 use Rattle.table.specs.declared.faults.TableFault.{TableFault}
 use Rattle.table.specs.declared.faults.TableFault.TheVariants.{Level, Bytes, Node, Store}
 use Rattle.table.specs.declared.calls.Call.{Call}
-use Rattle.table.specs.declared.calls.Call.TheVariants.{Settle, Add, Drop, Side, Rank, Block, Member, Shortfall}
+use Rattle.table.specs.declared.calls.Call.TheVariants.{Settle, Add, Drop, Side as asks_side, Rank, Block, Member, Shortfall}
 use Rattle.table.specs.declared.calls.Answer.{Answer}
 use Rattle.table.specs.declared.calls.Answer.TheVariants.{Done, Side as the_side, Rank as the_rank, Block as the_block, Member as the_member, Shortfall as the_shortfall}
 use Rattle.table.specs.Yards.{yard_of, sides_of}
@@ -46,18 +45,18 @@ first (r ∷ rs) = cond r.applies (Some r.fault) (first rs)
 -- the reasons to refuse a call that has working bytes enough, in their order
 abbrev pub reasons : Model → Call → List Reason
 reasons M Settle = []
-reasons M (Add b p) =
-    nat_le M.yard.buses b ⇒ Store (NoBus b p)
-    ∷ nat_le M.yard.posts p ⇒ Store (NoPost b p)
-    ∷ M.yard.paired b p ⇒ Store (Stands b p)
-    ∷ nat_eq M.room 0 ⇒ Store (Full b p)
+reasons M (Add q) =
+    nat_le M.yard.buses q.bus ⇒ Store (NoBus q)
+    ∷ nat_le M.yard.posts q.post ⇒ Store (NoPost q)
+    ∷ M.yard.paired q.bus q.post ⇒ Store (Stands q)
+    ∷ nat_eq M.room 0 ⇒ Store (Full q)
     ∷ []
-reasons M (Drop b p) =
-    nat_le M.yard.buses b ⇒ Store (NoBus b p)
-    ∷ nat_le M.yard.posts p ⇒ Store (NoPost b p)
-    ∷ not (M.yard.paired b p) ⇒ Store (NotStanding b p)
+reasons M (Drop q) =
+    nat_le M.yard.buses q.bus ⇒ Store (NoBus q)
+    ∷ nat_le M.yard.posts q.post ⇒ Store (NoPost q)
+    ∷ not (M.yard.paired q.bus q.post) ⇒ Store (NotStanding q)
     ∷ []
-reasons M (Side b p) = nat_le M.yard.buses b ⇒ Store (NoBus b p) ∷ nat_le M.yard.posts p ⇒ Store (NoPost b p) ∷ []
+reasons M (asks_side q) = nat_le M.yard.buses q.bus ⇒ Store (NoBus q) ∷ nat_le M.yard.posts q.post ⇒ Store (NoPost q) ∷ []
 reasons M (Rank n) = nat_le (nodes M.yard) n ⇒ Node n ∷ []
 reasons M (Block a) = nat_lt 255 a ⇒ Level a ∷ []
 reasons M (Member a n) = nat_lt 255 a ⇒ Level a ∷ []
@@ -70,26 +69,26 @@ refusal M bytes c = first (nat_lt bytes (nodes M.yard) ⇒ Bytes bytes ∷ reaso
 -- the model after an accepted call
 abbrev pub after : Call → Model → Model
 after Settle M = M
-after (Add b p) M = record { yard = add b p M.yard; room = M.room - 1 }
-after (Drop b p) M = record { yard = drop b p M.yard; room = M.room + 1 }
-after (Side b p) M = M
+after (Add q) M = record { yard = add q.bus q.post M.yard; room = M.room - 1 }
+after (Drop q) M = record { yard = drop q.bus q.post M.yard; room = M.room + 1 }
+after (asks_side q) M = M
 after (Rank n) M = M
 after (Block a) M = M
 after (Member a n) M = M
 after (Shortfall a) M = M
 
 -- what side answers: absent for a pair that is not in the model, else the side that the store holds
-pub record SideTold (Y : Yard) (m : Meaning) (b p : ℕ) (s : Standing) : Type 0 where
-  pub absent : Y.paired b p ≡ false → s ≡ Absent
-  pub there : Y.paired b p ≡ true → s ≢ Absent
+pub record SideTold (Y : Yard) (m : Meaning) (b p : ℕ) (s : Option Side) : Type 0 where
+  pub absent : Y.paired b p ≡ false → s ≡ None
+  pub there : Y.paired b p ≡ true → s ≢ None
   pub held : s ≡ m.standing b p
 
 -- the right answer of an accepted call, where the store ends with the meaning m
 abbrev pub Right : Limits → Yard → Meaning → Call → Answer → Type 0
 Right L Y m Settle r = r ≡ Done
-Right L Y m (Add b p) r = r ≡ Done
-Right L Y m (Drop b p) r = r ≡ Done
-Right L Y m (Side b p) r = (s : Standing) × (r ≡ the_side s) × SideTold Y m b p s
+Right L Y m (Add q) r = r ≡ Done
+Right L Y m (Drop q) r = r ≡ Done
+Right L Y m (asks_side q) r = (s : Option Side) × (r ≡ the_side s) × SideTold Y m q.bus q.post s
 Right L Y m (Rank n) r = r ≡ the_rank (rank Y L n)
 Right L Y m (Block a) r = r ≡ the_block (count_from (block_at Y L a) 0 Y.buses) (count_from (block_at Y L a) Y.buses Y.posts)
 Right L Y m (Member a n) r = (k : Option ℕ) × (r ≡ the_member k) × FirstMember (block_at Y L a) n (nodes Y) k
@@ -99,9 +98,9 @@ Right L Y m (Shortfall a) r = r ≡ the_shortfall (shortfall_at Y L a)
 -- lowers them; the named bus is exempt, and never goes the wrong way; no other call moves any
 abbrev pub RanksMove : Limits → Call → Yard → Yard → Type 0
 RanksMove L Settle Y Z = Z ≡ Y
-RanksMove L (Add b p) Y Z = Raised (pos 1) L b Y Z × ((a : ℕ) → shortfall_at Z L a ≤ shortfall_at Y L a + 1)
-RanksMove L (Drop b p) Y Z = Lowered (pos 1) L b Y Z × ((a : ℕ) → shortfall_at Y L a ≤ shortfall_at Z L a + 1)
-RanksMove L (Side b p) Y Z = Z ≡ Y
+RanksMove L (Add q) Y Z = Raised (pos 1) L q.bus Y Z × ((a : ℕ) → shortfall_at Z L a ≤ shortfall_at Y L a + 1)
+RanksMove L (Drop q) Y Z = Lowered (pos 1) L q.bus Y Z × ((a : ℕ) → shortfall_at Y L a ≤ shortfall_at Z L a + 1)
+RanksMove L (asks_side q) Y Z = Z ≡ Y
 RanksMove L (Rank n) Y Z = Z ≡ Y
 RanksMove L (Block a) Y Z = Z ≡ Y
 RanksMove L (Member a n) Y Z = Z ≡ Y
@@ -111,9 +110,9 @@ RanksMove L (Shortfall a) Y Z = Z ≡ Y
 -- stood before; any other call turns none
 abbrev pub SidesTurn : Call → Meaning → Meaning → Type 0
 SidesTurn Settle m n = n ≡ m
-SidesTurn (Add b p) m n = OneChainTurned (yard_of m) (yard_of m).paired (sides_of m) (sides_of n)
-SidesTurn (Drop b p) m n = OneChainTurned (yard_of m) (yard_of n).paired (sides_of m) (sides_of n)
-SidesTurn (Side b p) m n = n ≡ m
+SidesTurn (Add q) m n = OneChainTurned (yard_of m) (yard_of m).paired (sides_of m) (sides_of n)
+SidesTurn (Drop q) m n = OneChainTurned (yard_of m) (yard_of n).paired (sides_of m) (sides_of n)
+SidesTurn (asks_side q) m n = n ≡ m
 SidesTurn (Rank k) m n = n ≡ m
 SidesTurn (Block a) m n = n ≡ m
 SidesTurn (Member a k) m n = n ≡ m

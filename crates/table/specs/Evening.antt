@@ -5,7 +5,7 @@ use Rattle.blocks.specs.Sides.{Even, all_over}
 use Rattle.stores.specs.Meaning.{Meaning}
 use Rattle.table.specs.declared.queues.Queue.{Queue}
 use Rattle.table.specs.Yards.{yard_of, sides_of, leads_of}
-use Rattle.table.specs.Searches.{node, from, OverPairs}
+use Rattle.table.specs.Searches.{len, node, from, OverPairs}
 use Rattle.table.specs.Levels.{over_at, under_at}
 use Rattle.table.specs.Buses.{BusesRight, SamePairs}
 
@@ -16,9 +16,9 @@ EvenSides m L = Even (yard_of m) L (sides_of m)
 -- a place of the queue from which the way back leads from a post under its limit to one over it, at some level; or even sides
 pub record Uneven (m : Meaning) (L : Limits) (q : Queue) (answer : Option ℕ) : Type 0 where
   pub over : OverPairs m q
-  pub found : (i : ℕ) → i < q.len → (from q i ≡ i) ⊎ ((from q i < i) × (leads_of m (node q i) (node q (from q i)) ≡ true))
-  pub finds : (place : ℕ) → answer ≡ Some place → (a : ℕ) × (a < 256) × (place < q.len) × (under_at m L a (node q place) ≡ true)
-      × ((i : ℕ) → i < q.len → from q i ≡ i → over_at m L a (node q i) ≡ true)
+  pub found : (i : ℕ) → i < len q → (from q i ≡ i) ⊎ ((from q i < i) × (leads_of m (node q i) (node q (from q i)) ≡ true))
+  pub finds : (place : ℕ) → answer ≡ Some place → (a : ℕ) × (a < 256) × (place < len q) × (under_at m L a (node q place) ≡ true)
+      × ((i : ℕ) → i < len q → from q i ≡ i → over_at m L a (node q i) ≡ true)
   pub misses : answer ≡ None → EvenSides m L
 
 -- what the nodes carry beyond their limits, over all levels: it falls with each chain turned

@@ -4,7 +4,7 @@ use Rattle.blocks.specs.Sums.{sum, bit}
 use Rattle.blocks.specs.Limits.{Limits}
 use Rattle.blocks.specs.Yards.{Yard, nodes}
 use Rattle.stores.specs.Meaning.{Meaning, stands, by_post}
-use Rattle.stores.specs.declared.pairs.Standing.{Standing}
+use Rattle.stores.specs.declared.pairs.Side.{Side}
 use Rattle.table.specs.declared.faults.TableFault.{TableFault}
 use Rattle.table.specs.declared.faults.TableFault.TheVariants.{Bytes, Output}
 use Rattle.table.specs.Yards.{yard_of}
@@ -20,7 +20,7 @@ abbrev pub four_bytes : ℕ → List ℕ
 four_bytes w = (w / 2 ^ 24 % 256) ∷ (w / 2 ^ 16 % 256) ∷ (w / 2 ^ 8 % 256) ∷ (w % 256) ∷ []
 
 -- what the file has of one pair: its record, or nothing if it does not stand
-abbrev pub entry : ℕ → ℕ → Standing → List ℕ
+abbrev pub entry : ℕ → ℕ → Option Side → List ℕ
 entry b p s = cond (stands s) (four_bytes (word b p (by_post s))) []
 
 -- the records of the bus b with the posts below n, and of all buses below n

@@ -7,7 +7,7 @@ use Rattle.blocks.specs.Sides.{post_load}
 use Rattle.stores.specs.Meaning.{Meaning}
 use Rattle.table.specs.declared.queues.Queue.{Queue}
 use Rattle.table.specs.Yards.{yard_of, sides_of, leads_of}
-use Rattle.table.specs.Searches.{node, from, marked, Searched}
+use Rattle.table.specs.Searches.{len, node, from, marked, Searched}
 
 -- the pairs against their pointing
 abbrev pub against : Meaning → Leads
@@ -55,19 +55,19 @@ pub record Clear (m : Meaning) (L : Limits) (sought : ℕ → ℕ → Bool) (c :
 -- the posts over their limit have become starts; one of them was wanted, or none is
 pub record OverStarted (m : Meaning) (L : Limits) (a : ℕ) (wanted : ℕ → Bool) (q r : Queue) (marks : List ℕ) (answer : Option ℕ) : Type 0 where
   pub state : Searched (against m) (size m) r marks
-  pub longer : q.len ≤ r.len
+  pub longer : len q ≤ len r
   pub next : r.next ≡ q.next
-  pub same_node : (i : ℕ) → i < q.len → node r i ≡ node q i
-  pub same_from : (i : ℕ) → i < q.len → from r i ≡ from q i
-  pub is_start : (i : ℕ) → q.len ≤ i → i < r.len → (from r i ≡ i) × (over_at m L a (node r i) ≡ true)
-  pub finds : (place : ℕ) → answer ≡ Some place → (q.len ≤ place) × (place < r.len) × (wanted (node r place) ≡ true)
+  pub same_node : (i : ℕ) → i < len q → node r i ≡ node q i
+  pub same_from : (i : ℕ) → i < len q → from r i ≡ from q i
+  pub is_start : (i : ℕ) → len q ≤ i → i < len r → (from r i ≡ i) × (over_at m L a (node r i) ≡ true)
+  pub finds : (place : ℕ) → answer ≡ Some place → (len q ≤ place) × (place < len r) × (wanted (node r place) ≡ true)
   pub misses : answer ≡ None → ((p : ℕ) → p < m.posts → over_at m L a (m.buses + p) ≡ true → marked marks (m.buses + p) ≡ true)
-      × ((i : ℕ) → q.len ≤ i → i < r.len → wanted (node r i) ≡ false)
+      × ((i : ℕ) → len q ≤ i → i < len r → wanted (node r i) ≡ false)
 
 -- from level 255 down to `low`: the highest level at which a sought node is found, and its place; or every level is clear
 pub record Descended (m : Meaning) (L : Limits) (sought : ℕ → ℕ → Bool) (low : ℕ) (r : Queue) (marks : List ℕ) (answer : Option (ℕ × ℕ)) : Type 0 where
   pub state : Searched (against m) (size m) r marks
-  pub finds : (a place : ℕ) → answer ≡ Some (a, place) → (low ≤ a) × (a < 256) × (place < r.len) × (sought a (node r place) ≡ true)
-      × ((i : ℕ) → i < r.len → from r i ≡ i → over_at m L a (node r i) ≡ true) × ((c : ℕ) → a < c → c < 256 → Clear m L sought c)
+  pub finds : (a place : ℕ) → answer ≡ Some (a, place) → (low ≤ a) × (a < 256) × (place < len r) × (sought a (node r place) ≡ true)
+      × ((i : ℕ) → i < len r → from r i ≡ i → over_at m L a (node r i) ≡ true) × ((c : ℕ) → a < c → c < 256 → Clear m L sought c)
   pub misses : answer ≡ None → ((c : ℕ) → low ≤ c → c < 256 → Clear m L sought c)
       × (low < 256 → Reach (size m) (leads_of m) (limit_at m.buses L low) (marked marks))

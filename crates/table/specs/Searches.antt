@@ -1,5 +1,5 @@
 -- A search: what its queue and its marks hold, and what it promises.
-use Rattle.std.specs.Prelude.{◌≡◌, ℕ, ◌+◌, ◌<◌, ◌≤◌, Bool, true, false, ◌⊎◌, List, [], ◌∷◌, length, Some, None, Ok, Err, Option, Result, ◌≢◌, nat_lt, slice_index, slice_set}
+use Rattle.std.specs.Prelude.{◌≡◌, ℕ, ◌+◌, ◌<◌, ◌≤◌, Bool, true, false, ◌⊎◌, List, [], ◌∷◌, ◌++◌, length, Some, None, Ok, Err, Option, Result, ◌≢◌, nat_lt, slice_index, slice_index_or}
 use Rattle.blocks.specs.Sums.{sum, bit}
 use Rattle.blocks.specs.Sets.{Set}
 use Rattle.blocks.specs.Networks.{Leads, Walk}
@@ -10,12 +10,16 @@ use Rattle.stores.specs.Meaning.{Meaning, put, other}
 use Rattle.table.specs.Yards.{joined, along}
 use Rattle.table.specs.declared.queues.Queue.{Queue}
 
+-- how many nodes have been found
+abbrev pub len : Queue → ℕ
+len q = length q.found.items
+
 -- the i-th node found, and the place that it was found from
 abbrev pub node : Queue → ℕ → ℕ
-node q i = slice_index q.nodes i
+node q i = (slice_index_or q.found.items i (record { node = 0; from = 0 })).node
 
 abbrev pub from : Queue → ℕ → ℕ
-from q i = slice_index q.from i
+from q i = (slice_index_or q.found.items i (record { node = 0; from = 0 })).from
 
 -- a node is marked
 abbrev pub marked : List ℕ → ℕ → Bool
@@ -26,54 +30,51 @@ marked marks n = nat_lt 0 (slice_index marks n)
 pub record Searched (leads : Leads) (N : ℕ) (q : Queue) (marks : List ℕ) : Type 0 where
   pub long : N ≤ length marks
   pub few : N ≤ 512
-  pub places : (length q.nodes ≡ 512) × (length q.from ≡ 512)
-  pub counted : q.len ≡ sum N (λ n. bit (marked marks n))
-  pub followed : q.next ≤ q.len
-  pub inside : (i : ℕ) → i < q.len → node q i < N
-  pub once : (i j : ℕ) → i < q.len → j < q.len → node q i ≡ node q j → i ≡ j
-  pub found : (i : ℕ) → i < q.len → (from q i ≡ i) ⊎ ((from q i < i) × (leads (node q (from q i)) (node q i) ≡ true))
-  pub marks_found : (i : ℕ) → i < q.len → marked marks (node q i) ≡ true
-  pub found_marked : (n : ℕ) → n < N → marked marks n ≡ true → (i : ℕ) × (i < q.len) × (node q i ≡ n)
+  pub counted : len q ≡ sum N (λ n. bit (marked marks n))
+  pub followed : q.next ≤ len q
+  pub inside : (i : ℕ) → i < len q → node q i < N
+  pub once : (i j : ℕ) → i < len q → j < len q → node q i ≡ node q j → i ≡ j
+  pub found : (i : ℕ) → i < len q → (from q i ≡ i) ⊎ ((from q i < i) × (leads (node q (from q i)) (node q i) ≡ true))
+  pub marks_found : (i : ℕ) → i < len q → marked marks (node q i) ≡ true
+  pub found_marked : (n : ℕ) → n < N → marked marks n ≡ true → (i : ℕ) × (i < len q) × (node q i ≡ n)
   pub closed : (i y : ℕ) → i < q.next → y < N → leads (node q i) y ≡ true → marked marks y ≡ true
 
 -- one node put behind the others
 pub record Pushed (q r : Queue) (y f : ℕ) : Type 0 where
-  pub nodes : r.nodes ≡ slice_set q.nodes q.len y
-  pub froms : r.from ≡ slice_set q.from q.len f
-  pub len : r.len ≡ q.len + 1
+  pub found : r.found.items ≡ q.found.items ++ (record { node = y; from = f }) ∷ []
   pub next : r.next ≡ q.next
 
 -- the queue has grown by nodes that are no starts
 pub record Grown (q r : Queue) : Type 0 where
-  pub longer : q.len ≤ r.len
-  pub same_node : (i : ℕ) → i < q.len → node r i ≡ node q i
-  pub same_from : (i : ℕ) → i < q.len → from r i ≡ from q i
-  pub no_start : (i : ℕ) → q.len ≤ i → i < r.len → from r i < i
+  pub longer : len q ≤ len r
+  pub same_node : (i : ℕ) → i < len q → node r i ≡ node q i
+  pub same_from : (i : ℕ) → i < len q → from r i ≡ from q i
+  pub no_start : (i : ℕ) → len q ≤ i → i < len r → from r i < i
 
 -- from the queue q to the queue r: either the place of a node that was looked for, or all that was found has been followed and none
 -- of what was added was looked for
 pub record Sought (leads : Leads) (N : ℕ) (wanted : ℕ → Bool) (q r : Queue) (marks : List ℕ) (answer : Option ℕ) : Type 0 where
   pub state : Searched leads N r marks
   pub grown : Grown q r
-  pub finds : (place : ℕ) → answer ≡ Some place → (q.len ≤ place) × (place < r.len) × (wanted (node r place) ≡ true)
-  pub misses : answer ≡ None → (r.next ≡ r.len) × ((i : ℕ) → q.len ≤ i → i < r.len → wanted (node r i) ≡ false)
+  pub finds : (place : ℕ) → answer ≡ Some place → (len q ≤ place) × (place < len r) × (wanted (node r place) ≡ true)
+  pub misses : answer ≡ None → (r.next ≡ len r) × ((i : ℕ) → len q ≤ i → i < len r → wanted (node r i) ≡ false)
 
 -- the same of one node's leads: at the end that node, too, has been followed
 pub record Followed (leads : Leads) (N : ℕ) (wanted : ℕ → Bool) (q r : Queue) (marks : List ℕ) (answer : Option ℕ) : Type 0 where
   pub state : Searched leads N r marks
   pub grown : Grown q r
-  pub finds : (place : ℕ) → answer ≡ Some place → (q.len ≤ place) × (place < r.len) × (wanted (node r place) ≡ true)
-  pub misses : answer ≡ None → (r.next ≡ q.next + 1) × ((i : ℕ) → q.len ≤ i → i < r.len → wanted (node r i) ≡ false)
+  pub finds : (place : ℕ) → answer ≡ Some place → (len q ≤ place) × (place < len r) × (wanted (node r place) ≡ true)
+  pub misses : answer ≡ None → (r.next ≡ q.next + 1) × ((i : ℕ) → len q ≤ i → i < len r → wanted (node r i) ≡ false)
 
 -- from the queue q to the queue r: a node has become a start, unless it was marked already
 pub record Started (leads : Leads) (N : ℕ) (q r : Queue) (marks marks' : List ℕ) (start : ℕ) : Type 0 where
   pub state : Searched leads N r marks'
   pub there : marked marks' start ≡ true
-  pub longer : q.len ≤ r.len
+  pub longer : len q ≤ len r
   pub next : r.next ≡ q.next
-  pub same_node : (i : ℕ) → i < q.len → node r i ≡ node q i
-  pub same_from : (i : ℕ) → i < q.len → from r i ≡ from q i
-  pub is_start : (i : ℕ) → q.len ≤ i → i < r.len → (node r i ≡ start) × (from r i ≡ i)
+  pub same_node : (i : ℕ) → i < len q → node r i ≡ node q i
+  pub same_from : (i : ℕ) → i < len q → from r i ≡ from q i
+  pub is_start : (i : ℕ) → len q ≤ i → i < len r → (node r i ≡ start) × (from r i ≡ i)
   pub still : (n : ℕ) → marked marks n ≡ true → marked marks' n ≡ true
 
 -- a chain from one of the starts to a node that was looked for
@@ -105,9 +106,9 @@ FirstStray N starts s = (i : ℕ) × (i < length starts) × (slice_index starts 
 pub record AllStarted (leads : Leads) (N : ℕ) (wanted : ℕ → Bool) (starts : List ℕ) (r : Queue) (marks : List ℕ) (answer : Option ℕ) : Type 0 where
   pub state : Searched leads N r marks
   pub next : r.next ≡ 0
-  pub only : (i : ℕ) → i < r.len → (from r i ≡ i) × ((j : ℕ) × (j < length starts) × (slice_index starts j ≡ node r i))
+  pub only : (i : ℕ) → i < len r → (from r i ≡ i) × ((j : ℕ) × (j < length starts) × (slice_index starts j ≡ node r i))
   pub finds : (n : ℕ) → answer ≡ Some n → ((j : ℕ) × (j < length starts) × (slice_index starts j ≡ n)) × (wanted n ≡ true)
-  pub misses : answer ≡ None → ((i : ℕ) → i < length starts → marked marks (slice_index starts i) ≡ true) × ((i : ℕ) → i < r.len → wanted (node r i) ≡ false)
+  pub misses : answer ≡ None → ((i : ℕ) → i < length starts → marked marks (slice_index starts i) ≡ true) × ((i : ℕ) → i < len r → wanted (node r i) ≡ false)
 
 -- What a search from some starts answers, over so many working bytes: refused by too few of them, then by the first start that is no
 -- node; else a node that was looked for and is reached, or none.
@@ -138,10 +139,10 @@ pub data Trail (q : Queue) : ℕ → List ℕ → Type 0 where
 -- a queue of a search over the pairs of a meaning, along or against their pointing: each node found once, and each but a start paired
 -- with the one that it was found from
 pub record OverPairs (m : Meaning) (q : Queue) : Type 0 where
-  pub few : q.len ≤ 512
-  pub inside : (i : ℕ) → i < q.len → node q i < m.buses + m.posts
-  pub once : (i j : ℕ) → i < q.len → j < q.len → node q i ≡ node q j → i ≡ j
-  pub paired : (i : ℕ) → i < q.len → (from q i ≡ i) ⊎ ((from q i < i) × (joined m (node q (from q i)) (node q i) ≡ true))
+  pub few : len q ≤ 512
+  pub inside : (i : ℕ) → i < len q → node q i < m.buses + m.posts
+  pub once : (i j : ℕ) → i < len q → j < len q → node q i ≡ node q j → i ≡ j
+  pub paired : (i : ℕ) → i < len q → (from q i ≡ i) ⊎ ((from q i < i) × (joined m (node q (from q i)) (node q i) ≡ true))
 
 -- from the meaning m to the meaning n every pair on the way back has turned, and nothing else has changed
 pub record TurnedBack (q : Queue) (place : ℕ) (m n : Meaning) : Type 0 where

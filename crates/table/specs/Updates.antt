@@ -1,15 +1,14 @@
 -- One pair more or less, and one chain turned after it.
-use Rattle.std.specs.Prelude.{◌≡◌, ℕ, ◌<◌, ◌≤◌, Bool, true, ◌⊎◌, List}
+use Rattle.std.specs.Prelude.{◌≡◌, ℕ, ◌<◌, ◌≤◌, Bool, true, ◌⊎◌, List, None}
 use Rattle.blocks.specs.Limits.{Limits, limit_at}
 use Rattle.blocks.specs.Yards.{add, drop}
 use Rattle.blocks.specs.Networks.{Walk}
 use Rattle.blocks.specs.Chains.{Chain, end}
 use Rattle.blocks.specs.Sides.{OneChainTurned}
 use Rattle.stores.specs.Meaning.{Meaning, put, stands}
-use Rattle.stores.specs.declared.pairs.Standing.TheVariants.{Absent}
 use Rattle.table.specs.declared.queues.Queue.{Queue}
 use Rattle.table.specs.Yards.{yard_of, sides_of, leads_of, along}
-use Rattle.table.specs.Searches.{node, from, OverPairs}
+use Rattle.table.specs.Searches.{len, node, from, OverPairs}
 use Rattle.table.specs.Levels.{size, load_of}
 use Rattle.table.specs.Buses.{SamePairs}
 use Rattle.table.specs.Evening.{EvenSides}
@@ -17,16 +16,16 @@ use Rattle.table.specs.Evening.{EvenSides}
 -- the queue holds all that leads to the node x, which is its only start
 pub record AllLeading (m : Meaning) (x : ℕ) (q : Queue) : Type 0 where
   pub over : OverPairs m q
-  pub found : (i : ℕ) → i < q.len → (from q i ≡ i) ⊎ ((from q i < i) × (leads_of m (node q i) (node q (from q i)) ≡ true))
-  pub some : 0 < q.len
+  pub found : (i : ℕ) → i < len q → (from q i ≡ i) ⊎ ((from q i < i) × (leads_of m (node q i) (node q (from q i)) ≡ true))
+  pub some : 0 < len q
   pub first : node q 0 ≡ x
-  pub only : (i : ℕ) → i < q.len → from q i ≡ i → i ≡ 0
-  pub all : (n : ℕ) → n < size m → Walk (leads_of m) n x → (i : ℕ) × (i < q.len) × (node q i ≡ n)
+  pub only : (i : ℕ) → i < len q → from q i ≡ i → i ≡ 0
+  pub all : (n : ℕ) → n < size m → Walk (leads_of m) n x → (i : ℕ) × (i < len q) × (node q i ≡ n)
 
 -- a place of the queue whose node is sought wherever any of its nodes is; the first place if none is sought anywhere
 pub record Chosen (sought : ℕ → ℕ → Bool) (q : Queue) (place : ℕ) : Type 0 where
-  pub inside : place < q.len
-  pub wherever : (c i : ℕ) → c < 256 → i < q.len → sought c (node q i) ≡ true → sought c (node q place) ≡ true
+  pub inside : place < len q
+  pub wherever : (c i : ℕ) → c < 256 → i < len q → sought c (node q i) ≡ true → sought c (node q place) ≡ true
   pub which : (place ≡ 0) ⊎ ((c : ℕ) × (c < 256) × (sought c (node q place) ≡ true))
 
 -- the pair has been added, the sides are even, and of the pairs that stood exactly those of one chain have turned
@@ -39,7 +38,7 @@ pub record AddedEven (m n : Meaning) (L : Limits) (b p : ℕ) : Type 0 where
 pub record Addable (m : Meaning) (room b p : ℕ) : Type 0 where
   pub bus : b < m.buses
   pub post : p < m.posts
-  pub absent : m.standing b p ≡ Absent
+  pub absent : m.standing b p ≡ None
   pub place : 0 < room
 
 -- the pair has been dropped, the sides are even, and of the pairs that stay exactly those of one chain have turned
@@ -67,4 +66,4 @@ pub record Droppable (m : Meaning) (b p : ℕ) : Type 0 where
 -- only sides have changed, and the sides are even once the pair is gone
 pub record WayMade (m n : Meaning) (L : Limits) (b p : ℕ) : Type 0 where
   pub pairs : SamePairs m n
-  pub dropped : DroppedEven m (put b p Absent n) L b p
+  pub dropped : DroppedEven m (put b p None n) L b p

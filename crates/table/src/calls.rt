@@ -1,15 +1,15 @@
 use crate::faults::TableFault;
-use stores::pairs::Standing;
+use stores::pairs::{Pair, Side};
 
 // What is asked of a table.
-#[derive(Clone, Copy)]
+#[derive(Clone, Copy, PartialEq, Eq, Debug)]
 pub enum Call {
     // make the sides even
     Settle,
-    Add { bus: u16, post: u16 },
-    Drop { bus: u16, post: u16 },
+    Add(Pair),
+    Drop(Pair),
     // how a pair stands
-    Side { bus: u16, post: u16 },
+    Side(Pair),
     Rank { node: u16 },
     // how many buses and posts the block of a level has
     Block { level: u16 },
@@ -19,11 +19,12 @@ pub enum Call {
 }
 
 // What an accepted call answers.
-#[derive(Clone, Copy, PartialEq)]
+#[derive(Clone, Copy, PartialEq, Eq, Debug)]
 pub enum Answer {
     // done, and nothing to tell
     Done,
-    Side(Standing),
+    // the side that carries the pair, none where it is absent
+    Side(Option<Side>),
     // −1 to 255
     Rank(i16),
     Block { buses: u16, posts: u16 },
@@ -32,7 +33,7 @@ pub enum Answer {
 }
 
 // One call of a list: what is asked, over how many working bytes, and what was answered, once it has been.
-#[derive(Clone, Copy)]
+#[derive(Clone, Copy, PartialEq, Eq, Debug)]
 pub struct Entry {
     pub call: Call,
     pub bytes: usize,

@@ -4,7 +4,7 @@ ghost use Rattle.table.specs.Checks.{Enough, LevelTaken, Checked};
 
 use crate::faults::TableFault;
 use stores::faults::StoreFault;
-use stores::pairs::Standing;
+use stores::pairs::Pair;
 use stores::views::{Store, View};
 
 // Levels run from 0 to this.
@@ -12,7 +12,7 @@ const LAST_LEVEL: u16 = 255;
 
 // The number of nodes, where the working bytes suffice for them.
 pub(crate) fn enough<S: View>(view: &S, bytes: usize) -> Result<u16, TableFault>
-    ensures { Enough (S.View.means view.now) bytes result }
+    ensures { Enough (S.means view.now) bytes result }
 {
     let nodes = view.buses() + view.posts();
     if bytes < nodes as usize {
@@ -31,25 +31,24 @@ pub(crate) fn take_level(level: u16) -> Result<(), TableFault>
 }
 
 // May the pair be added?
-pub(crate) fn addable<S: Store>(store: &S, bus: u16, post: u16) -> Result<(), StoreFault>
-    ensures { Checked (model_of (S.View.means store.now) (S.Store.room store.now)) (addition bus post) result }
+pub(crate) fn addable<S: Store>(store: &S, pair: Pair) -> Result<(), StoreFault>
+    ensures { Checked (model_of (S.means store.now) (S.room store.now)) (addition pair) result }
 {
-    match store.stands(bus, post)? {
-        Standing::Absent => {}
-        _ => return Err(StoreFault::Stands { bus, post }),
+    if store.stands(pair)?.is_some() {
+        return Err(StoreFault::Stands(pair));
     }
     if store.room() == 0 {
-        return Err(StoreFault::Full { bus, post });
+        return Err(StoreFault::Full(pair));
     }
     Ok(())
 }
 
 // May the pair be dropped?
-pub(crate) fn droppable<S: Store>(store: &S, bus: u16, post: u16) -> Result<(), StoreFault>
-    ensures { Checked (model_of (S.View.means store.now) (S.Store.room store.now)) (removal bus post) result }
+pub(crate) fn droppable<S: Store>(store: &S, pair: Pair) -> Result<(), StoreFault>
+    ensures { Checked (model_of (S.means store.now) (S.room store.now)) (removal pair) result }
 {
-    match store.stands(bus, post)? {
-        Standing::Absent => Err(StoreFault::Absent { bus, post }),
-        _ => Ok(()),
+    if store.stands(pair)?.is_none() {
+        return Err(StoreFault::Absent(pair));
     }
+    Ok(())
 }

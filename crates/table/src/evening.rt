@@ -1,28 +1,25 @@
 ghost use Rattle.std.specs.Prelude.{◌≡◌, ◌≤◌, length};
-ghost use Rattle.table.specs.Searches.{Searched};
-ghost use Rattle.table.specs.Levels.{against, size};
+ghost use Rattle.table.specs.Searches.{len};
+ghost use Rattle.table.specs.Levels.{size};
 ghost use Rattle.table.specs.Buses.{BusesRight};
 ghost use Rattle.table.specs.Evening.{Uneven, ChainTurned, Settled};
 
 use crate::buses::settle_buses;
 use crate::levels::{Under, descend, loads};
-use crate::queues::Queue;
+use crate::networks::{Against, Along, Reversed};
+use crate::searches::Search;
 use crate::turning::turn_back;
 use rules::Rule;
 use stores::views::{Store, View};
 
 // The place of a post under its limit from which the way back leads to one over it, at the highest level that has any.
-fn uneven<S: View, R: Rule>(
-    view: &S,
-    rule: &R,
-    queue: &mut Queue,
-    marks: &mut [u8],
-) -> Option<usize>
-    requires state { Searched (against (S.View.means view.now)) (size (S.View.means view.now)) queue.old marks.old }
-    requires none { (queue.old.len ≡ 0) × (queue.old.next ≡ 0) }
-    requires right { BusesRight (S.View.means view.now) (R.Rule.limits rule.now) }
-    ensures { Uneven (S.View.means view.now) (R.Rule.limits rule.now) queue.new result }
+fn uneven<S: View, R: Rule>(search: &mut Search<'_, Against<'_, S>>, rule: &R) -> Option<usize>
+    requires none { (len search.old.queue ≡ 0) × (search.old.queue.next ≡ 0) }
+    requires right { BusesRight (S.means search.old.net.now.0.0.now) (R.limits rule.now) }
+    ensures { Uneven (S.means search.old.net.now.0.0.now) (R.limits rule.now) search.new.queue result }
 {
+    let net = search.net;
+    let view = net.0.0;
     let loads = loads(view);
     let goal = Under {
         rule,
@@ -30,23 +27,25 @@ fn uneven<S: View, R: Rule>(
         buses: view.buses(),
         posts: view.posts(),
     };
-    match descend(view, rule, &loads, &goal, 0, queue, marks) {
-        Some((_, place)) => Some(place),
-        None => None,
-    }
+    descend(search, rule, &loads, &goal, 0).map(|(_, place)| place)
 }
+
+// Here and wherever pairs are turned, the store changes and the rule does not: `&mut S` beside `&R` says so by its type, where a method of
+// the table would have to promise it.
 
 // Turns one chain from a post under its limit to one over it, over any working bytes; false where the sides are even.
 fn turn_one<S: Store, R: Rule>(store: &mut S, rule: &R, marks: &mut [u8]) -> bool
-    requires long { size (S.View.means store.old) ≤ length marks.old }
-    requires right { BusesRight (S.View.means store.old) (R.Rule.limits rule.now) }
-    ensures room { S.Store.room store.new ≡ S.Store.room store.old }
-    ensures turned { ChainTurned (S.View.means store.old) (S.View.means store.new) (R.Rule.limits rule.now) result }
+    requires long { size (S.means store.old) ≤ length marks.old }
+    requires right { BusesRight (S.means store.old) (R.limits rule.now) }
+    ensures room { S.room store.new ≡ S.room store.old }
+    ensures turned { ChainTurned (S.means store.old) (S.means store.new) (R.limits rule.now) result }
 {
     marks.fill(0);
-    let mut queue = Queue::new();
-    match uneven(store, rule, &mut queue, marks) {
+    let net = Reversed(Along(store));
+    let mut search = Search::over(&net, marks);
+    match uneven(&mut search, rule) {
         Some(place) => {
+            let queue = search.into_found();
             turn_back(store, &queue, place);
             true
         }
@@ -56,9 +55,9 @@ fn turn_one<S: Store, R: Rule>(store: &mut S, rule: &R, marks: &mut [u8]) -> boo
 
 // Makes the sides even: first the buses, then one chain after the other. Turns none if they are.
 pub(crate) fn settle<S: Store, R: Rule>(store: &mut S, rule: &R, marks: &mut [u8])
-    requires { size (S.View.means store.old) ≤ length marks.old }
-    ensures room { S.Store.room store.new ≡ S.Store.room store.old }
-    ensures settled { Settled (S.View.means store.old) (S.View.means store.new) (R.Rule.limits rule.now) }
+    requires { size (S.means store.old) ≤ length marks.old }
+    ensures room { S.room store.new ≡ S.room store.old }
+    ensures settled { Settled (S.means store.old) (S.means store.new) (R.limits rule.now) }
 {
     settle_buses(store, rule);
     while turn_one(store, rule, marks) {}

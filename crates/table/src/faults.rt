@@ -4,7 +4,7 @@ ghost use Rattle.table.specs.declared.faults.TableFault.TheVariants.{Store as by
 use stores::faults::StoreFault;
 
 // Why the table refuses a call: it holds the number refused, or the store's own fault. The numbers are in specs/Faults.
-#[derive(Clone, Copy, PartialEq, Debug)]
+#[derive(Clone, Copy, PartialEq, Eq, Debug)]
 pub enum TableFault {
     // 21: a level above 255
     Level(u16),

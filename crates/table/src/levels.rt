@@ -1,35 +1,31 @@
 ghost use Rattle.std.specs.Prelude.{◌≡◌, ℕ, ◌<◌, ◌≤◌, Bool};
 ghost use Rattle.blocks.specs.Sides.{post_load};
 ghost use Rattle.table.specs.Yards.{yard_of, sides_of};
-ghost use Rattle.table.specs.Searches.{Searched};
-ghost use Rattle.table.specs.Levels.{against, size, BusesWithin, Upward, LoadsOf, OverStarted, Descended, under};
+ghost use Rattle.table.specs.Searches.{len};
+ghost use Rattle.table.specs.Levels.{BusesWithin, Upward, LoadsOf, OverStarted, Descended, under};
 
 use crate::buses::carries;
 use crate::networks::{Against, Goal};
-use crate::queues::Queue;
-use crate::searches::{search, start};
+use crate::searches::Search;
 use rules::Rule;
-use stores::pairs::Side;
+use stores::pairs::{Pair, Side};
 use stores::views::View;
 
 // What a post carries.
 fn load_of<S: View>(view: &S, post: u16) -> u16
-    requires { post < (S.View.means view.now).posts }
-    ensures { result ≡ post_load (yard_of (S.View.means view.now)) (sides_of (S.View.means view.now)) post }
+    requires { post < (S.means view.now).posts }
+    ensures { result ≡ post_load (yard_of (S.means view.now)) (sides_of (S.means view.now)) post }
 {
-    let mut load = 0;
-    for bus in 0..view.buses() {
-        if carries(view, bus, post, Side::Post) {
-            load += 1;
-        }
-    }
-    load
+    (0..view.buses())
+        .filter(|&bus| carries(view, Pair { bus, post }, Side::Post))
+        .count() as u16
 }
 
 // What each post carries.
 pub(crate) fn loads<S: View>(view: &S) -> [u16; 256]
-    ensures { LoadsOf (S.View.means view.now) result }
+    ensures { LoadsOf (S.means view.now) result }
 {
+    // By the posts' own numbers, which the view is asked by.
     let mut loads = [0; 256];
     for post in 0..view.posts() {
         loads[post as usize] = load_of(view, post);
@@ -53,7 +49,7 @@ pub(crate) struct AtLevel<'a, G> {
 }
 
 impl<G: LevelGoal> Goal for AtLevel<'_, G> {
-    ghost wanted = { λ a. G.LevelGoal.sought a.goal.now a.level };
+    ghost wanted = { λ a. G.sought a.goal.now a.level };
 
     fn wanted(&self, node: u16) -> bool {
         self.goal.sought(self.level, node)
@@ -62,26 +58,27 @@ impl<G: LevelGoal> Goal for AtLevel<'_, G> {
 
 // Makes every post over its limit at a level a start, and stops at once at one that is looked for.
 fn start_over<S: View, R: Rule, G: Goal>(
-    view: &S,
+    search: &mut Search<'_, Against<'_, S>>,
     rule: &R,
     loads: &[u16; 256],
     goal: &G,
     level: u16,
-    queue: &mut Queue,
-    marks: &mut [u8],
 ) -> Option<usize>
-    requires state { Searched (against (S.View.means view.now)) (size (S.View.means view.now)) queue.old marks.old }
-    requires loads { LoadsOf (S.View.means view.now) loads.now }
-    ensures { OverStarted (S.View.means view.now) (R.Rule.limits rule.now) level (G.Goal.wanted goal.now) queue.old queue.new marks.new result }
+    requires { LoadsOf (S.means search.old.net.now.0.0.now) loads.now }
+    ensures over { (search.new.net.now ≡ search.old.net.now) × (search.new.marks.ghost_name ≡ search.old.marks.ghost_name) }
+    ensures started { OverStarted (S.means search.old.net.now.0.0.now) (R.limits rule.now) level (G.wanted goal.now) search.old.queue search.new.queue search.new.marks.now result }
 {
+    let net = search.net;
+    let view = net.0.0;
     let buses = view.buses();
+    // A post's number is its place among the loads and the marks, and the rule is asked by it.
     for post in 0..view.posts() {
         if u32::from(loads[post as usize]) > rule.post_limit(post, level)
-            && marks[(buses + post) as usize] == 0
+            && search.marks[(buses + post) as usize] == 0
         {
-            start(&Against(view), queue, marks, buses + post);
+            search.start(buses + post);
             if goal.wanted(buses + post) {
-                return Some(queue.len - 1);
+                return Some(search.queue.found.len() - 1);
             }
         }
     }
@@ -91,34 +88,29 @@ fn start_over<S: View, R: Rule, G: Goal>(
 // Goes down from level 255 to `low`, and stops at once where a node that is sought leads to a post over its limit: the level, and the
 // node's place in the queue. One search serves all levels, since the posts over their limit only grow.
 pub(crate) fn descend<S: View, R: Rule, G: LevelGoal>(
-    view: &S,
+    search: &mut Search<'_, Against<'_, S>>,
     rule: &R,
     loads: &[u16; 256],
     goal: &G,
     low: u16,
-    queue: &mut Queue,
-    marks: &mut [u8],
 ) -> Option<(u16, usize)>
-    requires state { Searched (against (S.View.means view.now)) (size (S.View.means view.now)) queue.old marks.old }
-    requires none { (queue.old.len ≡ 0) × (queue.old.next ≡ 0) }
-    requires loads { LoadsOf (S.View.means view.now) loads.now }
-    requires buses { BusesWithin (S.View.means view.now) (R.Rule.limits rule.now) }
-    requires up { Upward (G.LevelGoal.sought goal.now) }
+    requires none { (len search.old.queue ≡ 0) × (search.old.queue.next ≡ 0) }
+    requires loads { LoadsOf (S.means search.old.net.now.0.0.now) loads.now }
+    requires buses { BusesWithin (S.means search.old.net.now.0.0.now) (R.limits rule.now) }
+    requires up { Upward (G.sought goal.now) }
     requires low { low ≤ 256 }
-    ensures { Descended (S.View.means view.now) (R.Rule.limits rule.now) (G.LevelGoal.sought goal.now) low queue.new marks.new result }
+    ensures over { (search.new.net.now ≡ search.old.net.now) × (search.new.marks.ghost_name ≡ search.old.marks.ghost_name) }
+    ensures descended { Descended (S.means search.old.net.now.0.0.now) (R.limits rule.now) (G.sought goal.now) low search.new.queue search.new.marks.now result }
 {
-    let mut level = 256;
+    // Left from inside by the label, as soon as a chain is found.
     'found: {
-        while level > low {
-            level -= 1;
+        for level in (low..256).rev() {
             let wanted = AtLevel { goal, level };
-            match start_over(view, rule, loads, &wanted, level, queue, marks) {
-                Some(place) => break 'found Some((level, place)),
-                None => {}
+            if let Some(place) = start_over(search, rule, loads, &wanted, level) {
+                break 'found Some((level, place));
             }
-            match search(&Against(view), &wanted, queue, marks) {
-                Some(place) => break 'found Some((level, place)),
-                None => {}
+            if let Some(place) = search.run(&wanted) {
+                break 'found Some((level, place));
             }
         }
         None
@@ -135,7 +127,7 @@ pub(crate) struct Under<'a, R> {
 }
 
 impl<R: Rule> LevelGoal for Under<'_, R> {
-    ghost sought = { λ u. under u.loads.now (R.Rule.limits u.rule.now) u.buses u.posts };
+    ghost sought = { λ u. under u.loads.now (R.limits u.rule.now) u.buses u.posts };
 
     fn sought(&self, level: u16, node: u16) -> bool {
         if node < self.buses {

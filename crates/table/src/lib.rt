@@ -16,6 +16,5 @@ pub mod networks;
 pub mod queues;
 mod reports;
 pub mod searches;
-mod steps;
 pub mod tables;
 mod turning;

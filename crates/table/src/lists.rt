@@ -11,36 +11,26 @@ use stores::views::{Store, View};
 // A yard has at most so many nodes, so no call looks at more working bytes.
 const MOST_NODES: usize = 512;
 
-// Makes one call.
+// Makes one call. A list of calls is data that its owner writes and compares, so a call is an enum and no closure.
 fn make<S: Store, R: Rule>(
     table: &mut Table<S, R>,
     call: Call,
     bytes: &mut [u8],
 ) -> Result<Answer, TableFault>
     ensures rule { table.new.rule ≡ table.old.rule }
-    ensures does { Promised (λ a. a) (R.Rule.limits table.old.rule) (length bytes.old) call (S.View.means table.old.store) (S.View.means table.new.store) (S.Store.room table.old.store) (S.Store.room table.new.store) result }
+    ensures does { Promised (λ a. a) (R.limits table.old.rule) (length bytes.old) call (S.means table.old.store) (S.means table.new.store) (S.room table.old.store) (S.room table.new.store) result }
 {
     match call {
-        Call::Settle => {
-            table.settle(bytes)?;
-            Ok(Answer::Done)
-        }
-        Call::Add { bus, post } => {
-            table.add(bus, post, bytes)?;
-            Ok(Answer::Done)
-        }
-        Call::Drop { bus, post } => {
-            table.drop(bus, post, bytes)?;
-            Ok(Answer::Done)
-        }
-        Call::Side { bus, post } => Ok(Answer::Side(table.side(bus, post, bytes)?)),
-        Call::Rank { node } => Ok(Answer::Rank(table.rank(node, bytes)?)),
-        Call::Block { level } => {
-            let (buses, posts) = table.block(level, bytes)?;
-            Ok(Answer::Block { buses, posts })
-        }
-        Call::Member { level, node } => Ok(Answer::Member(table.member(level, node, bytes)?)),
-        Call::Shortfall { level } => Ok(Answer::Shortfall(table.shortfall(level, bytes)?)),
+        Call::Settle => table.settle(bytes).map(|()| Answer::Done),
+        Call::Add(pair) => table.add(pair, bytes).map(|()| Answer::Done),
+        Call::Drop(pair) => table.drop(pair, bytes).map(|()| Answer::Done),
+        Call::Side(pair) => table.side(pair, bytes).map(Answer::Side),
+        Call::Rank { node } => table.rank(node, bytes).map(Answer::Rank),
+        Call::Block { level } => table
+            .block(level, bytes)
+            .map(|(buses, posts)| Answer::Block { buses, posts }),
+        Call::Member { level, node } => table.member(level, node, bytes).map(Answer::Member),
+        Call::Shortfall { level } => table.shortfall(level, bytes).map(Answer::Shortfall),
     }
 }
 
@@ -49,19 +39,13 @@ impl<S: Store, R: Rule> Table<S, R> {
     // its call.
     pub fn run(&mut self, entries: &mut [Entry])
         ensures rule { self.new.rule ≡ self.old.rule }
-        ensures made { ListMade (R.Rule.limits self.old.rule) (held (S.View.means self.old.store) (S.Store.room self.old.store)) (held (S.View.means self.new.store) (S.Store.room self.new.store)) entries.old entries.new }
+        ensures made { ListMade (R.limits self.old.rule) (held (S.means self.old.store) (S.room self.old.store)) (held (S.means self.new.store) (S.room self.new.store)) entries.old entries.new }
     {
         let mut bytes = [0; MOST_NODES];
         let _ = self.settle(&mut bytes);
-        for i in 0..entries.len() {
-            let entry = entries[i];
+        for entry in entries {
             let count = entry.bytes.min(MOST_NODES);
-            let answer = make(self, entry.call, &mut bytes[..count]);
-            entries[i] = Entry {
-                call: entry.call,
-                bytes: entry.bytes,
-                answer: Some(answer),
-            };
+            entry.answer = Some(make(self, entry.call, &mut bytes[..count]));
         }
     }
 }

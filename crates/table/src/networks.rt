@@ -1,7 +1,7 @@
 ghost use Rattle.std.specs.Prelude.{◌≡◌, ℕ, ◌+◌, ◌≤◌, Bool};
 ghost use Rattle.table.specs.Yards.{leads_of};
 
-use stores::pairs::Standing;
+use stores::pairs::{Pair, Side};
 use stores::views::View;
 
 // Nodes, at most 512, and which of them leads to which.
@@ -18,7 +18,7 @@ pub trait Network {
         ensures { result ≡ leads self.now from to };
 }
 
-// What a search looks for.
+// What a search looks for: a trait, since a closure's contract names no set that its answers stand for.
 pub trait Goal {
     ghost wanted: { Self → ℕ → Bool };
 
@@ -30,41 +30,43 @@ pub trait Goal {
 #[derive(Drop)]
 pub struct Along<'a, S>(pub &'a S);
 
-// The same pairs, each leading away from the end that carries it.
+// A network with each of its leads turned round.
 #[derive(Drop)]
-pub struct Against<'a, S>(pub &'a S);
+pub struct Reversed<N>(pub N);
+
+// The pairs of a view, each leading away from the end that carries it.
+pub type Against<'a, S> = Reversed<Along<'a, S>>;
 
 fn points<S: View>(view: &S, from: u16, to: u16) -> bool
-    ensures { result ≡ leads_of (S.View.means view.now) from to }
+    ensures { result ≡ leads_of (S.means view.now) from to }
 {
     let buses = view.buses();
     if from < buses {
         if to < buses {
             return false;
         }
-        matches!(view.stands(from, to - buses), Ok(Standing::Post))
+        view.stands(Pair {
+            bus: from,
+            post: to - buses,
+        }) == Ok(Some(Side::Post))
     } else {
         if to >= buses {
             return false;
         }
-        matches!(view.stands(to, from - buses), Ok(Standing::Bus))
+        view.stands(Pair {
+            bus: to,
+            post: from - buses,
+        }) == Ok(Some(Side::Bus))
     }
 }
 
-fn count<S: View>(view: &S) -> u16
-    ensures count { result ≡ (S.View.means view.now).buses + (S.View.means view.now).posts }
-    ensures few { result ≤ 512 }
-{
-    view.buses() + view.posts()
-}
-
 impl<S: View> Network for Along<'_, S> {
-    ghost nodes = { λ a. (S.View.means a.0.now).buses + (S.View.means a.0.now).posts };
+    ghost nodes = { λ a. (S.means a.0.now).buses + (S.means a.0.now).posts };
 
-    ghost leads = { λ a. leads_of (S.View.means a.0.now) };
+    ghost leads = { λ a. leads_of (S.means a.0.now) };
 
     fn nodes(&self) -> u16 {
-        count(self.0)
+        self.0.buses() + self.0.posts()
     }
 
     fn leads(&self, from: u16, to: u16) -> bool {
@@ -72,16 +74,16 @@ impl<S: View> Network for Along<'_, S> {
     }
 }
 
-impl<S: View> Network for Against<'_, S> {
-    ghost nodes = { λ a. (S.View.means a.0.now).buses + (S.View.means a.0.now).posts };
+impl<N: Network> Network for Reversed<N> {
+    ghost nodes = { λ r. N.nodes r.0 };
 
-    ghost leads = { λ a x y. leads_of (S.View.means a.0.now) y x };
+    ghost leads = { λ r x y. N.leads r.0 y x };
 
     fn nodes(&self) -> u16 {
-        count(self.0)
+        self.0.nodes()
     }
 
     fn leads(&self, from: u16, to: u16) -> bool {
-        points(self.0, to, from)
+        self.0.leads(to, from)
     }
 }

@@ -1,26 +1,28 @@
-ghost use Rattle.std.specs.Prelude.{◌≡◌, replicate};
+ghost use Rattle.std.specs.Prelude.{◌≡◌, []};
 
-// The nodes that a search has found, in the order found, and for each the place in that order that it was found from: its own place
-// at a start. The leads of those before `next` have been followed.
+use arrayvec::ArrayVec;
+
+// A node that a search has found, and the place in the order found that it was found from: its own place at a start.
+#[derive(Clone, Copy, Default)]
+pub struct Found {
+    pub(crate) node: u16,
+    pub(crate) from: u16,
+}
+
+// What a search has found, in the order found. The leads of those before `next` have been followed.
 #[derive(Drop)]
 pub struct Queue {
-    pub(crate) nodes: [u16; 512],
-    pub(crate) from: [u16; 512],
-    pub(crate) len: usize,
+    pub(crate) found: ArrayVec<Found, 512>,
     pub(crate) next: usize,
 }
 
 impl Queue {
     // Nothing found yet.
     pub(crate) fn new() -> Queue
-        ensures nodes { result.nodes ≡ replicate 512 0 }
-        ensures froms { result.from ≡ replicate 512 0 }
-        ensures none { (result.len ≡ 0) × (result.next ≡ 0) }
+        ensures { (result.found.items ≡ []) × (result.next ≡ 0) }
     {
         Queue {
-            nodes: [0; 512],
-            from: [0; 512],
-            len: 0,
+            found: ArrayVec::new(),
             next: 0,
         }
     }

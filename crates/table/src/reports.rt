@@ -8,23 +8,72 @@ ghost use Rattle.table.specs.Evening.{EvenSides};
 ghost use Rattle.table.specs.Reports.{BlockMarked, count_from, FirstMember};
 
 use crate::levels::{LevelGoal, descend, loads};
-use crate::networks::Goal;
-use crate::queues::Queue;
+use crate::networks::{Along, Goal, Reversed};
+use crate::searches::Search;
 use rules::Rule;
 use stores::views::View;
 
-// What the posts carry beyond their limits at a level.
-pub(crate) fn shortfall<S: View, R: Rule>(view: &S, rule: &R, level: u16) -> u32
-    requires even { EvenSides (S.View.means view.now) (R.Rule.limits rule.now) }
-    requires level { level ≤ 255 }
-    ensures { result ≡ shortfall_at (yard_of (S.View.means view.now)) (R.Rule.limits rule.now) level }
-{
-    let loads = loads(view);
-    let mut total: u32 = 0;
-    for post in 0..view.posts() {
-        total += u32::from(loads[post as usize]).saturating_sub(rule.post_limit(post, level));
+// A view whose sides are even under a rule: what a table reports from.
+#[derive(Drop)]
+pub(crate) struct Report<'a, S: View, R: Rule> {
+    view: &'a S,
+    rule: &'a R,
+    ghost even: { EvenSides (S.means view.now) (R.limits rule.now) },
+}
+
+impl<'a, S: View, R: Rule> Report<'a, S, R> {
+    pub(crate) fn over(view: &'a S, rule: &'a R) -> Report<'a, S, R>
+        requires { EvenSides (S.means view.now) (R.limits rule.now) }
+        ensures { (result.view.now ≡ view.now) × (result.rule.now ≡ rule.now) }
+    {
+        Report { view, rule }
     }
-    total
+
+    // What the posts carry beyond their limits at a level.
+    pub(crate) fn shortfall(&self, level: u16) -> u32
+        requires { level ≤ 255 }
+        ensures { result ≡ shortfall_at (yard_of (S.means self.now.view.now)) (R.limits self.now.rule.now) level }
+    {
+        let loads = loads(self.view);
+        // `sum` requires a bound on what it adds, which only the loop's invariant gives.
+        let mut total: u32 = 0;
+        for post in 0..self.view.posts() {
+            total += u32::from(loads[post as usize]).saturating_sub(
+                self.rule.post_limit(post, level),
+            );
+        }
+        total
+    }
+
+    // Marks the block of a level, over cleared bytes.
+    pub(crate) fn mark_block(&self, level: u16, marks: &mut [u8])
+        requires zero { marks.old ≡ replicate (length marks.old) 0 }
+        requires long { size (S.means self.now.view.now) ≤ length marks.old }
+        requires level { level ≤ 255 }
+        ensures { BlockMarked (S.means self.now.view.now) (R.limits self.now.rule.now) level marks.new }
+    {
+        let loads = loads(self.view);
+        let net = Reversed(Along(self.view));
+        let mut search = Search::over(&net, marks);
+        let _ = descend(&mut search, self.rule, &loads, &NoNode, level);
+    }
+
+    // The rank of a node, over cleared bytes: the highest level at which it leads to a post over its limit.
+    pub(crate) fn rank(&self, node: u16, marks: &mut [u8]) -> i16
+        requires zero { marks.old ≡ replicate (length marks.old) 0 }
+        requires long { size (S.means self.now.view.now) ≤ length marks.old }
+        requires node { node < size (S.means self.now.view.now) }
+        ensures { result ≡ rank_of (yard_of (S.means self.now.view.now)) (R.limits self.now.rule.now) node }
+    {
+        let loads = loads(self.view);
+        let net = Reversed(Along(self.view));
+        let mut search = Search::over(&net, marks);
+        // In a closure the cast would have to ask for its bound.
+        match descend(&mut search, self.rule, &loads, &OneNode(node), 0) {
+            Some((level, _)) => level as i16,
+            None => -1,
+        }
+    }
 }
 
 // Looks for no node.
@@ -64,13 +113,11 @@ pub(crate) fn count_marked(marks: &[u8], start: u16, count: u16) -> u16
     requires { start + count ≤ length marks.now }
     ensures { result ≡ count_from (marked marks.now) start count }
 {
-    let mut total = 0;
-    for k in 0..count {
-        if marks[start as usize + k as usize] > 0 {
-            total += 1;
-        }
-    }
-    total
+    let start = start as usize;
+    marks[start..start + count as usize]
+        .iter()
+        .filter(|mark| **mark > 0)
+        .count() as u16
 }
 
 // The first mark that is set from a place on.
@@ -78,39 +125,5 @@ pub(crate) fn first_marked(marks: &[u8], start: u16, nodes: u16) -> Option<u16>
     requires { nodes ≤ length marks.now }
     ensures { FirstMember (marked marks.now) start nodes result }
 {
-    for node in start..nodes {
-        if marks[node as usize] > 0 {
-            return Some(node);
-        }
-    }
-    None
-}
-
-// Marks the block of a level, over cleared bytes.
-pub(crate) fn mark_block<S: View, R: Rule>(view: &S, rule: &R, level: u16, marks: &mut [u8])
-    requires zero { marks.old ≡ replicate (length marks.old) 0 }
-    requires long { size (S.View.means view.now) ≤ length marks.old }
-    requires even { EvenSides (S.View.means view.now) (R.Rule.limits rule.now) }
-    requires level { level ≤ 255 }
-    ensures { BlockMarked (S.View.means view.now) (R.Rule.limits rule.now) level marks.new }
-{
-    let loads = loads(view);
-    let mut queue = Queue::new();
-    let _ = descend(view, rule, &loads, &NoNode, level, &mut queue, marks);
-}
-
-// The rank of a node, over cleared bytes: the highest level at which it leads to a post over its limit.
-pub(crate) fn rank<S: View, R: Rule>(view: &S, rule: &R, node: u16, marks: &mut [u8]) -> i16
-    requires zero { marks.old ≡ replicate (length marks.old) 0 }
-    requires long { size (S.View.means view.now) ≤ length marks.old }
-    requires even { EvenSides (S.View.means view.now) (R.Rule.limits rule.now) }
-    requires node { node < size (S.View.means view.now) }
-    ensures { result ≡ rank_of (yard_of (S.View.means view.now)) (R.Rule.limits rule.now) node }
-{
-    let loads = loads(view);
-    let mut queue = Queue::new();
-    match descend(view, rule, &loads, &OneNode(node), 0, &mut queue, marks) {
-        Some((level, _)) => level as i16,
-        None => -1,
-    }
+    (start..nodes).find(|node| marks[*node as usize] > 0)
 }

@@ -1,4 +1,4 @@
-use Rattle.console.proofs.Writes.{decimals_stand_lem}
+use Rattle.console.proofs.Room.{decimals_stand_lem}
 use Rattle.console.proofs.printing.decimals_stand.Goals as goal
 
 pub returns : goal.returns

@@ -1,6 +1,7 @@
-use Rattle.std.proofs.Common.{arith}
-use Rattle.rolls.specs.Entries.{empty_means}
+use Rattle.std.proofs.Common.{refl}
+use Rattle.rolls.specs.Rolls.{standing}
 use Rattle.rolls.proofs.Roll.cleared.Goals as goal
 
-pub returns : goal.returns
-returns c = record { means = empty_means c.args.buses c.args.posts; room = omega arith }
+pub returns-clause-means : goal.returns-clause-means
+unfolding standing
+returns-clause-means c = rw c.new.ensures refl

@@ -1,10 +1,11 @@
-use Rattle.std.proofs.Common.{List, sym, subst}
-use Rattle.rolls.specs.declared.Entry.{Entry}
-use Rattle.rolls.specs.Rolls.{Ascending, Found}
+use Rattle.std.proofs.Common.{rules}
+use Rattle.std.proofs.lemmas.List.Sorted.{answers_always}
+use Rattle.rolls.proofs.Places.{searched}
 use Rattle.rolls.proofs.Roll.find.Goals as goal
 
-pub locate-requires : goal.locate-requires
-locate-requires c = subst (λ (xs : List Entry). Ascending xs) (sym c.listed.ensures.value) c.args.self.now.ascending
-
+-- the closure gives an entry's pair, and the slice is the roll's entries
 pub returns : goal.returns
-returns c = subst (λ (xs : List Entry). Found xs c.args.bus c.args.post c.locate.result) c.listed.ensures.value c.locate.ensures
+returns c =
+    let facts = c.binary_search_by_key.ensures in
+    let by_pair = facts.position (λ entry. entry.pair) (answers_always _ _ _ (λ f a r g called. search rules)) in
+    rw (← c.deref.ensures.0) (searched _ c.args.pair (rw c.deref.ensures.0 c.args.self.now.ascending) _ facts.bound by_pair)

@@ -1,24 +1,29 @@
-use Rattle.std.proofs.Common.{arith}
-use Rattle.rolls.specs.Replies.{add_keeps, add_stands, add_full, add_adds}
+use Rattle.std.proofs.Common.{rules, arith}
+use Rattle.rolls.proofs.Changes.{gap_absent, here_carried, inserted_ascending, inserted_inside, inserted_means}
 use Rattle.rolls.proofs.RollStore.add.Goals as goal
 
-pub invariant_of-self : goal.invariant_of-self
-invariant_of-self c =
-    let s = c.args.self.now in
-    let kept = add_keeps _ _ _ s.few_posts s.ascending s.inside _ _ c.in_ok-admit.ensures _ c.in-Err.at c.args.side c.in-Err.ensures c.insert.ensures in
-    record { few_buses = s.few_buses; few_posts = s.few_posts; bounded = s.bounded; within = omega arith; ascending = kept.0; inside = kept.1 }
+pub returns-in_default : goal.returns-in_default
+returns-in_default c =
+    let side = here_carried _ c.args.self.now.ascending c.args.pair _ c.in_default.ensures (record { pair = c.args.pair; side = c.args.side }) in
+    grind (arith, side)
 
-pub returns-in-Ok : goal.returns-in-Ok
-returns-in-Ok c =
-    let s = c.args.self.now in
-    add_stands _ _ _ s.few_posts s.ascending s.inside _ _ c.in_ok-admit.ensures c.in-Ok.field-0 _ _ c.in-Ok.ensures
+pub returns-then-len-from : goal.returns-then-len-from
+returns-then-len-from c =
+    let absent = gap_absent _ c.args.pair _ c.in-Err.ensures in
+    grind (arith, absent)
 
-pub returns-then-self-from : goal.returns-then-self-from
-returns-then-self-from c =
-    let s = c.args.self.now in
-    add_full _ _ _ s.few_posts s.ascending s.inside _ _ c.in_ok-admit.ensures c.in-Err.at _ _ c.in-Err.ensures (omega arith)
+pub invariant_of-self-clause-ascending : goal.invariant_of-self-clause-ascending
+invariant_of-self-clause-ascending c = inserted_ascending _ c.args.pair _ c.in-Err.ensures c.args.side _ (search rules) c.args.self.now.ascending
 
-pub returns-else-self-from : goal.returns-else-self-from
-returns-else-self-from c =
+pub invariant_of-self-clause-inside : goal.invariant_of-self-clause-inside
+invariant_of-self-clause-inside c =
     let s = c.args.self.now in
-    add_adds _ _ _ s.few_posts s.ascending s.inside _ _ c.in_ok-admit.ensures _ c.in-Err.at _ _ _ c.in-Err.ensures c.insert.ensures (omega arith)
+    let admitted = c.in_ok-admit.ensures in
+    inserted_inside _ c.args.pair _ c.in-Err.ensures c.args.side _ s.buses s.posts (search rules) (grind (arith, admitted)) (grind (arith, admitted)) s.inside
+
+pub returns : goal.returns
+returns c =
+    let s = c.args.self.now in
+    let absent = gap_absent _ c.args.pair _ c.in-Err.ensures in
+    let means = inserted_means _ c.args.pair _ c.in-Err.ensures c.args.side s.buses s.posts in
+    grind (arith, absent, means)

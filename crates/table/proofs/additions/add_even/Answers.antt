@@ -10,7 +10,7 @@ returns-then-from-bus_limit g c =
     let put_in = c.add.ensures.adds f.bus f.post f.absent f.place in
     record {
       room = put_in.1;
-      added = subst (λ (n : Meaning). AddedEven (g.S.View.means c.args.store.now) n (g.R.Rule.limits c.args.rule.now) c.args.bus c.args.post) (sym put_in.0.meaning)
-          (added_to_bus (g.S.View.means c.args.store.now) (g.R.Rule.limits c.args.rule.now) (g.met.R.Rule.lawful c.args.rule.now).rises (g.met.S.View.bounded c.args.store.now) c.requires.even c.args.bus c.args.post f.bus f.post f.absent
+      added = subst (λ (n : Meaning). AddedEven (g.S.View.means c.args.store.now) n (g.R.Rule.limits c.args.rule.now) c.args.pair.bus c.args.pair.post) (sym put_in.0.meaning)
+          (added_to_bus (g.S.View.means c.args.store.now) (g.R.Rule.limits c.args.rule.now) (g.met.R.Rule.lawful c.args.rule.now).rises (g.met.S.View.bounded c.args.store.now) c.requires.even c.args.pair.bus c.args.pair.post f.bus f.post f.absent
           (omega (arith, c.count_on-carried.ensures.count, c.from.ensures, c.bus_limit.ensures, c.if-from-bus_limit)));
     }

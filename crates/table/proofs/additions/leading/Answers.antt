@@ -1,16 +1,10 @@
-use Rattle.std.proofs.Common.{◌≡◌, length, replicate, arith, rules}
-use Rattle.table.proofs.Searching.{searched_none}
 use Rattle.table.proofs.Adding.{all_leading}
 use Rattle.table.proofs.additions.leading.Goals as goal
 
-pub start-requires : goal.start-requires
-start-requires g c =
-    let b = g.met.S.View.bounded c.args.view.now in
-    let z : c.fill.new.self ≡ replicate (length c.args.marks.now) 0 = search rules in
-    record {
-      state = searched_none _ _ _ _ (length c.args.marks.now) (omega (arith, b.few_buses, b.few_posts)) c.requires.long z c.new-queue.ensures.nodes c.new-queue.ensures.froms c.new-queue.ensures.none.0 c.new-queue.ensures.none.1;
-      inside = c.requires.inside;
-    }
-
 pub returns : goal.returns
-returns g c = all_leading (g.S.View.means c.args.view.now) (g.met.S.View.bounded c.args.view.now) c.args.node c.new-queue.result c.start.new.queue c.search.new.queue c.fill.new.self c.start.new.marks c.search.new.marks c.search.result c.requires.inside c.new-queue.ensures.none.0 c.start.ensures c.search.ensures
+returns g c =
+    let started = rw c.over-search.ensures.over.0 at c.start.ensures.started in
+    let sought = rw c.over-search.ensures.over.0 at (rw c.start.ensures.over.0 at c.run.ensures.sought) in
+    rw c.into_found.ensures
+    (all_leading (g.S.View.means c.args.view.now) (g.met.S.View.bounded c.args.view.now) c.args.node c.over-search.result.queue c.start.new.self.queue c.run.new.self.queue
+    c.over-search.result.marks.now c.start.new.self.marks.now c.run.new.self.marks.now c.run.result c.requires.inside c.over-search.ensures.none.0 started sought)

@@ -1,13 +1,10 @@
-use Rattle.std.proofs.Common.{true, false, arith}
-use Rattle.table.proofs.Counting.{tally_none, tally_more}
-use Rattle.table.proofs.buses.count_on.Goals.{then-carries, else-carries}
+use Rattle.std.proofs.Common.{ℕ, rules}
+use borrow.Author.Tests.{tests}
+use Rattle.table.specs.Buses.{is_on}
+use Rattle.table.proofs.Counting.{filtered}
 use Rattle.table.proofs.buses.count_on.Goals as goal
 
-pub loop-post-init : goal.loop-post-init
-loop-post-init g c = tally_none _
-
-pub loop-post-preserved : goal.loop-post-preserved
-loop-post-preserved g c = elim c.if-carries.branch [
-  | then-carries w ↦ tally_more _ _ _ _ true c.loop-post.invariant w.if-carries.ensures w.count-is
-  | else-carries w ↦ tally_more _ _ _ _ false c.loop-post.invariant w.if-carries.ensures (omega (arith, w.count-is))
-]
+pub returns-clause-count : goal.returns-clause-count
+returns-clause-count g c =
+    let test = λ (p : ℕ). is_on c.args.side ((g.S.View.means c.args.view.now).standing c.args.bus p) in
+    filtered test c.posts.ensures c.filter.ensures.runs c.count.ensures.runs (λ x r f k. search (rules, tests))

@@ -1,30 +1,18 @@
-use Rattle.std.proofs.Common.{ℕ, Some, None, subst, arith}
-use Rattle.table.specs.Levels.{under, Descended}
-use Rattle.table.proofs.EvenSides.{right_within, under_upward, uneven_found, uneven_none}
+use Rattle.std.proofs.Common.{◌≡◌, rules}
+use Rattle.std.specs.Option.{option_map}
+use Rattle.table.proofs.EvenSides.{right_within, under_upward, uneven_by}
 use Rattle.table.proofs.evening.uneven.Goals as goal
 
-pub descend-requires : goal.descend-requires
-descend-requires g c = record {
-  state = c.requires.state;
-  none = c.requires.none;
-  loads = c.loads-loads.ensures;
-  buses = right_within (g.S.View.means c.args.view.now) (g.R.Rule.limits c.args.rule.now) c.requires.right;
-  up = under_upward _ (g.R.Rule.limits c.args.rule.now) _ _ (g.met.R.Rule.lawful c.args.rule.now).rises;
-  low = omega arith;
-}
+pub descend-requires-clause-buses : goal.descend-requires-clause-buses
+descend-requires-clause-buses g c = right_within (g.S.View.means c.args.search.now.net.now.0.0.now) (g.R.Rule.limits c.args.rule.now) c.requires.right
 
-pub returns-in-Some : goal.returns-in-Some
-returns-in-Some g c =
-    let m = g.S.View.means c.args.view.now in
-    let L = g.R.Rule.limits c.args.rule.now in
-    let d = subst (λ (b : ℕ). Descended (g.S.View.means c.args.view.now) (g.R.Rule.limits c.args.rule.now) (under c.loads-loads.result (g.R.Rule.limits c.args.rule.now) b c.posts.result) 0 c.descend.new.queue c.descend.new.marks (Some (c.in-Some.field-0-0, c.in-Some.place))) c.buses.ensures c.in-Some.ensures in
-    let e = subst (λ (p : ℕ). Descended (g.S.View.means c.args.view.now) (g.R.Rule.limits c.args.rule.now) (under c.loads-loads.result (g.R.Rule.limits c.args.rule.now) (g.S.View.means c.args.view.now).buses p) 0 c.descend.new.queue c.descend.new.marks (Some (c.in-Some.field-0-0, c.in-Some.place))) c.posts.ensures d in
-    uneven_found m L c.loads-loads.result (g.met.S.View.bounded c.args.view.now) c.loads-loads.ensures c.requires.right c.descend.new.queue c.descend.new.marks c.in-Some.field-0-0 c.in-Some.place e
+pub descend-requires-clause-up : goal.descend-requires-clause-up
+descend-requires-clause-up g c = under_upward _ (g.R.Rule.limits c.args.rule.now) _ _ (g.met.R.Rule.lawful c.args.rule.now).rises
 
-pub returns-in-None : goal.returns-in-None
-returns-in-None g c =
-    let m = g.S.View.means c.args.view.now in
+pub returns : goal.returns
+returns g c =
+    let m = g.S.View.means c.args.search.now.net.now.0.0.now in
     let L = g.R.Rule.limits c.args.rule.now in
-    let d = subst (λ (b : ℕ). Descended (g.S.View.means c.args.view.now) (g.R.Rule.limits c.args.rule.now) (under c.loads-loads.result (g.R.Rule.limits c.args.rule.now) b c.posts.result) 0 c.descend.new.queue c.descend.new.marks None) c.buses.ensures c.in-None.ensures in
-    let e = subst (λ (p : ℕ). Descended (g.S.View.means c.args.view.now) (g.R.Rule.limits c.args.rule.now) (under c.loads-loads.result (g.R.Rule.limits c.args.rule.now) (g.S.View.means c.args.view.now).buses p) 0 c.descend.new.queue c.descend.new.marks None) c.posts.ensures d in
-    uneven_none m L c.loads-loads.result (g.met.S.View.bounded c.args.view.now) c.loads-loads.ensures c.requires.right c.descend.new.queue c.descend.new.marks e
+    let d = rw c.posts.ensures at (rw c.buses.ensures at c.descend.ensures.descended) in
+    let answer : c.map.result ≡ option_map (λ v. v.1) c.descend.result = search rules in
+    rw answer (uneven_by m L c.loads-loads.result (g.met.S.View.bounded c.args.search.now.net.now.0.0.now) c.loads-loads.ensures c.requires.right c.descend.new.search.queue c.descend.new.search.marks.now c.descend.result d)

@@ -1,5 +1,5 @@
-use Rattle.std.proofs.Common.{◌≡◌, ℕ, length, sym, subst, arith}
-use Rattle.table.specs.Files.{row, Wrote}
+use Rattle.std.proofs.Common.{length, sym, subst, arith}
+use Rattle.table.specs.Files.{Wrote}
 use Rattle.table.proofs.Writing.{wrote_none, wrote_then, pair_fits, row_more, no_row}
 use Rattle.table.proofs.files.put_row.Goals as goal
 
@@ -20,8 +20,3 @@ loop-post-preserved g c =
     subst (λ t. Wrote c.args.out.now c.args.at t c.put_pair-end.new.out c.put_pair-end.result)
     (sym (row_more (g.S.View.means c.args.view.now) c.args.bus c.loop-post.post))
     (wrote_then _ _ c.loop-post.invariant c.put_pair-end.ensures)
-
-pub returns : goal.returns
-returns g c =
-    let e : c.loop-post.post ≡ (g.S.View.means c.args.view.now).posts = omega (arith, c.posts-post-end.ensures) in
-    subst (λ (n : ℕ). Wrote c.args.out.now c.args.at (row (g.S.View.means c.args.view.now) c.args.bus n) c.loop-post.out c.loop-post.end) e c.loop-post.invariant

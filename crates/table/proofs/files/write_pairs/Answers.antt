@@ -1,6 +1,6 @@
-use Rattle.std.proofs.Common.{◌≡◌, ℕ, length, sym, subst, arith}
-use Rattle.table.specs.Files.{rows, Wrote}
-use Rattle.table.proofs.Writing.{wrote_none, wrote_then, wrote_whole, row_fits, rows_more, no_rows}
+use Rattle.std.proofs.Common.{length, sym, subst, arith}
+use Rattle.table.specs.Files.{Wrote}
+use Rattle.table.proofs.Writing.{wrote_none, wrote_then, row_fits, rows_more, no_rows}
 use Rattle.table.proofs.files.write_pairs.Goals as goal
 
 pub loop-bus-init : goal.loop-bus-init
@@ -18,9 +18,3 @@ pub loop-bus-preserved : goal.loop-bus-preserved
 loop-bus-preserved g c =
     subst (λ t. Wrote c.args.out.now 0 t c.put_row-end.new.out c.put_row-end.result) (sym (rows_more (g.S.View.means c.args.view.now) c.loop-bus.bus))
     (wrote_then _ _ c.loop-bus.invariant c.put_row-end.ensures)
-
-pub returns : goal.returns
-returns g c =
-    let e : c.loop-bus.bus ≡ (g.S.View.means c.args.view.now).buses = omega (arith, c.buses-bus-end.ensures) in
-    let w = wrote_whole _ _ _ _ (subst (λ (n : ℕ). Wrote c.args.out.now 0 (rows (g.S.View.means c.args.view.now) n) c.loop-bus.out c.loop-bus.end) e c.loop-bus.invariant) in
-    record { answer = w.0; bytes = w.1 }

@@ -1,13 +1,11 @@
-use Rattle.std.proofs.Common.{true, false, arith}
-use Rattle.table.proofs.Counting.{tally_none, tally_more, carried_stands}
-use Rattle.table.proofs.levels.load_of.Goals.{then-carries, else-carries}
+use Rattle.std.proofs.Common.{ℕ, ◌&&◌, rules}
+use borrow.Author.Tests.{tests}
+use Rattle.stores.specs.Meaning.{stands, by_post}
+use Rattle.table.proofs.Counting.{filtered, carried_stands}
 use Rattle.table.proofs.levels.load_of.Goals as goal
 
-pub loop-bus-init : goal.loop-bus-init
-loop-bus-init g c = tally_none _
-
-pub loop-bus-preserved : goal.loop-bus-preserved
-loop-bus-preserved g c = elim c.if-carries.branch [
-  | then-carries w ↦ tally_more _ _ _ _ true c.loop-bus.invariant (carried_stands ((g.S.View.means c.args.view.now).standing c.loop-bus.bus c.args.post) true w.if-carries.ensures) w.load-is
-  | else-carries w ↦ tally_more _ _ _ _ false c.loop-bus.invariant (carried_stands ((g.S.View.means c.args.view.now).standing c.loop-bus.bus c.args.post) false w.if-carries.ensures) (omega (arith, w.load-is))
-]
+pub returns : goal.returns
+returns g c =
+    let at = λ (b : ℕ). (g.S.View.means c.args.view.now).standing b c.args.post in
+    filtered (λ b. stands (at b) && by_post (at b)) c.buses.ensures c.filter.ensures.runs c.count.ensures.runs
+    (λ x r f k. search (rules, tests, carried_stands))

@@ -5,11 +5,11 @@ use Rattle.table.specs.declared.calls.Call.TheVariants.{Settle}
 use Rattle.table.specs.declared.calls.Entry.{Entry}
 use Rattle.table.specs.Evening.{EvenSides}
 use Rattle.table.specs.Lists.{done}
-use Rattle.table.proofs.Runs.{settles, step_made, step_under, run_under, run_more, run_whole, list_made}
+use Rattle.table.proofs.Runs.{settles, step_made, step_under, run_more}
 use Rattle.table.proofs.tables.Table.run.Goals as goal
 
-pub loop-i-init : goal.loop-i-init
-loop-i-init g c = (
+pub loop-entry-init : goal.loop-entry-init
+loop-entry-init g c = (
   ap length c.settle.ensures.zero ∙ length-replicate {A = ℕ} 512 0,
   refl,
   subst (λ ρ. EvenSides (g.S.View.means c.settle.new.self.store) (g.R.Rule.limits ρ)) (sym c.settle.ensures.rule)
@@ -18,32 +18,21 @@ loop-i-init g c = (
   λ k d h. refl,
 )
 
-pub loop-i-preserved : goal.loop-i-preserved
-loop-i-preserved g c =
+pub loop-entry-preserved : goal.loop-entry-preserved
+loop-entry-preserved g c =
     let e : Entry = record { call = Settle; bytes = 0; answer = None } in
-    let asked = get_or c.loop-i.entries c.loop-i.i e in
-    let made : Entry = record { call = asked.call; bytes = asked.bytes; answer = Some c.make-answer.result } in
-    let few : c.min-count.result ≤ length c.loop-i.bytes = omega (arith, c.min-count.ensures, c.loop-i.invariant.0) in
+    let asked = get_or c.loop-entry.entry-items c.loop-entry.entry-index e in
+    let made : Entry = record { call = asked.call; bytes = asked.bytes; answer = Some c.make.result } in
+    let few : c.min-count.result ≤ length c.loop-entry.bytes = omega (arith, c.min-count.ensures, c.loop-entry.invariant.0) in
     let s =
-    step_made (g.R.Rule.limits c.loop-i.self.rule) (g.S.View.means c.loop-i.self.store) (g.S.View.means c.make-answer.new.table.store)
-    (g.S.Store.room c.loop-i.self.store) (g.S.Store.room c.make-answer.new.table.store) _ asked made c.make-answer.result
-    (g.met.S.View.bounded c.loop-i.self.store) (length-take-le c.min-count.result c.loop-i.bytes few ∙ c.min-count.ensures) c.loop-i.invariant.2 c.make-answer.ensures.does refl refl refl in (
-      length_front c.loop-i.bytes c.make-answer.new.bytes c.min-count.result c.make-answer.auto.bytes ∙ c.loop-i.invariant.0,
-      c.make-answer.ensures.rule ∙ c.loop-i.invariant.1,
-      subst (λ ρ. EvenSides (g.S.View.means c.make-answer.new.table.store) (g.R.Rule.limits ρ)) (sym c.make-answer.ensures.rule) s.even,
-      run_more (g.R.Rule.limits c.settle.new.self.rule) c.args.entries.now c.loop-i.entries c.loop-i.i e made (omega arith) (omega arith)
-          (c.loop-i.invariant.4 c.loop-i.i e (omega arith)) c.loop-i.invariant.3
-          (step_under (ap g.R.Rule.limits c.loop-i.invariant.1) s),
-      λ k d h. let ne : k ≢ c.loop-i.i = omega arith in rw get_or-set_other (c.loop-i.invariant.4 k d (omega arith)),
+    step_made (g.R.Rule.limits c.loop-entry.self.rule) (g.S.View.means c.loop-entry.self.store) (g.S.View.means c.make.new.table.store)
+    (g.S.Store.room c.loop-entry.self.store) (g.S.Store.room c.make.new.table.store) _ asked made c.make.result
+    (g.met.S.View.bounded c.loop-entry.self.store) (length-take-le c.min-count.result c.loop-entry.bytes few ∙ c.min-count.ensures) c.loop-entry.invariant.2 c.make.ensures.does refl refl refl in (
+      length_front c.loop-entry.bytes c.make.new.bytes c.min-count.result c.make.auto.bytes ∙ c.loop-entry.invariant.0,
+      c.make.ensures.rule ∙ c.loop-entry.invariant.1,
+      subst (λ ρ. EvenSides (g.S.View.means c.make.new.table.store) (g.R.Rule.limits ρ)) (sym c.make.ensures.rule) s.even,
+      run_more (g.R.Rule.limits c.settle.new.self.rule) c.args.entries.now c.loop-entry.entry-items c.loop-entry.entry-index e made (omega arith) (omega arith)
+          (c.loop-entry.invariant.4 c.loop-entry.entry-index e (omega arith)) c.loop-entry.invariant.3
+          (step_under (ap g.R.Rule.limits c.loop-entry.invariant.1) s),
+      λ k d h. let ne : k ≢ c.loop-entry.entry-index = omega arith in rw get_or-set_other (c.loop-entry.invariant.4 k d (omega arith)),
     )
-
-pub returns : goal.returns
-returns g c = record {
-  rule = c.loop-i.invariant.1 ∙ c.settle.ensures.rule;
-  made =
-      list_made (g.R.Rule.limits c.args.self.now.rule) _ (g.S.View.means c.settle.new.self.store) _ _ (g.S.Store.room c.settle.new.self.store) _ _ _ _
-      (settles _ _ _ _ _ _ (g.met.S.View.bounded c.args.self.now.store) c.settle.ensures.does)
-      (run_under (ap g.R.Rule.limits c.settle.ensures.rule)
-      (run_whole _ c.args.entries.now c.loop-i.entries c.loop-i.i (omega arith) (omega arith) c.loop-i.invariant.3))
-      (subst (λ ρ. EvenSides (g.S.View.means c.loop-i.self.store) (g.R.Rule.limits ρ)) (c.loop-i.invariant.1 ∙ c.settle.ensures.rule) c.loop-i.invariant.2);
-}

@@ -1,0 +1,7 @@
+use Rattle.table.proofs.Accepting.{added}
+use Rattle.table.proofs.tables.Table.add.Goals as goal
+
+pub returns-clause-does : goal.returns-clause-does
+returns-clause-does g c =
+    rw (← c.over-guard.ensures.len) (added _ (g.met.R.Rule.lawful c.args.self.now.rule).rises _ _ _ _ _ _ _ c.settle.ensures.settled c.settle.ensures.room c.args.pair.bus c.args.pair.post
+    c.in_ok-enough.ensures.0 c.in_ok-addable.ensures c.add_even.ensures.added c.add_even.ensures.room)
