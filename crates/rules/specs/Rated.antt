@@ -45,6 +45,11 @@ rated sheet buses posts = record {
   post = λ a p. post_start sheet buses posts p + post_step sheet buses posts p * a;
 }
 
+-- the answer to what stands at a place of the sheet
+pub record ByteAt (sheet : List ℕ) (i : ℕ) (r : Option ℕ) : Type 0 where
+  pub inside : i < length sheet → r ≡ Some (byte sheet i)
+  pub outside : length sheet ≤ i → r ≡ None
+
 -- the answer to what a post's two bytes are
 pub record WordAt (sheet : List ℕ) (buses posts p : ℕ) (r : Option ℕ) : Type 0 where
   pub inside : p < posts → place buses p + 1 < length sheet → r ≡ Some (word sheet buses p)

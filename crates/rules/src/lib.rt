@@ -1,9 +1,9 @@
 // Limit rules: one limit for all, or rates read from a sheet.
 #![tactic(auto)]
 
-ghost use Rattle.std.specs.Prelude.{◌≡◌, ◌≤◌};
+ghost use Rattle.std.specs.Prelude.{◌≡◌, ℕ, ◌≤◌, List, length};
 ghost use Rattle.blocks.specs.Limits.{Limits, Lawful};
-ghost use Rattle.rules.specs.Rated.{rated, WordAt, SheetChecked};
+ghost use Rattle.rules.specs.Rated.{rated, ByteAt, WordAt, SheetChecked};
 ghost use Rattle.rules.specs.Rules.{flat, Lowest};
 ghost use Rattle.std.proofs.Common.{rules};
 ghost use Rattle.rules.specs.Rates.{rated_lawful};
@@ -61,7 +61,33 @@ pub enum SheetFault {
     NoStep { post: u16 },
 }
 
-// Limits read from a sheet of bytes, lent or owned.
+// A sheet of bytes, asked place by place: so it may be computed, or lie in parts.
+pub trait Sheet {
+    // the bytes that it stands for
+    ghost bytes: { Self → List ℕ };
+
+    fn len(&self) -> usize
+        ensures { result ≡ length (bytes self.now) };
+
+    // The byte at a place, if the sheet reaches that far.
+    fn byte(&self, at: usize) -> Option<u8>
+        ensures { ByteAt (bytes self.now) at result };
+}
+
+// Bytes that lie side by side, lent or owned, are a sheet as they are.
+impl<S: AsSlice<u8>> Sheet for S {
+    ghost bytes = { λ s. S.items s };
+
+    fn len(&self) -> usize {
+        self.as_slice().len()
+    }
+
+    fn byte(&self, at: usize) -> Option<u8> {
+        self.as_slice().get(at).copied()
+    }
+}
+
+// Limits read from a sheet.
 #[derive(Clone, Copy, PartialEq, Eq, Debug)]
 pub struct Rated<S> {
     sheet: S,
@@ -69,7 +95,7 @@ pub struct Rated<S> {
     posts: u16,
 }
 
-impl<S: AsSlice<u8>> Rated<S> {
+impl<S: Sheet> Rated<S> {
     pub fn new(sheet: S, buses: u16, posts: u16) -> Rated<S>
         ensures { (result.sheet ≡ sheet) × (result.buses ≡ buses) × (result.posts ≡ posts) }
     {
@@ -82,9 +108,9 @@ impl<S: AsSlice<u8>> Rated<S> {
 
     // Does the sheet fit its sizes, with a step for each post?
     pub fn check(&self) -> Result<(), SheetFault>
-        ensures { SheetChecked (S.items self.now.sheet) self.now.buses self.now.posts result }
+        ensures { SheetChecked (S.bytes self.now.sheet) self.now.buses self.now.posts result }
     {
-        let length = self.sheet.as_slice().len();
+        let length = self.sheet.len();
         if length != usize::from(self.buses) + 2 * usize::from(self.posts) {
             return Err(SheetFault::WrongLength { length });
         }
@@ -95,33 +121,28 @@ impl<S: AsSlice<u8>> Rated<S> {
 
     // The two bytes of a post, the most significant first, if it is one of the rule's and the sheet has both.
     fn word(&self, post: u16) -> Option<u16>
-        ensures { WordAt (S.items self.now.sheet) self.now.buses self.now.posts post result }
+        ensures { WordAt (S.bytes self.now.sheet) self.now.buses self.now.posts post result }
     {
         if post >= self.posts {
             return None;
         }
         let at = usize::from(self.buses) + 2 * usize::from(post);
-        match self.sheet.as_slice().get(at..)? {
-            &[high, low, ..] => Some(u16::from_be_bytes([high, low])),
-            _ => None,
-        }
+        let high = self.sheet.byte(at)?;
+        let low = self.sheet.byte(at + 1)?;
+        Some(u16::from(high) * 256 + u16::from(low))
     }
 }
 
-impl<S: AsSlice<u8>> Rule for Rated<S> {
-    ghost limits = { λ r. rated (S.items r.sheet) r.buses r.posts };
+impl<S: Sheet> Rule for Rated<S> {
+    ghost limits = { λ r. rated (S.bytes r.sheet) r.buses r.posts };
 
-    ghost lawful = { λ r. rated_lawful (S.items r.sheet) r.buses r.posts };
+    ghost lawful = { λ r. rated_lawful (S.bytes r.sheet) r.buses r.posts };
 
     fn bus_limit(&self, bus: u16) -> u32 {
         if bus >= self.buses {
             return 0;
         }
-        self.sheet
-            .as_slice()
-            .get(usize::from(bus))
-            .copied()
-            .map_or(0, u32::from)
+        self.sheet.byte(usize::from(bus)).map_or(0, u32::from)
     }
 
     fn post_limit(&self, post: u16, level: u16) -> u32 {
@@ -178,6 +199,31 @@ mod tests {
         assert_eq!(rt; Rated::new(SHEET, 60000, 3).bus_limit(59999), 0);
         assert_eq!(rt; lowest_level(&rule, 0, 36), Some(11));
         assert_eq!(rt; lowest_level(&rule, 0, 5 + 3 * 256 + 1), None);
+    }
+
+    // A sheet that lends no slice: it is asked byte by byte.
+    #[derive(Drop)]
+    struct Registers([u8; 7]);
+
+    impl Sheet for Registers {
+        ghost bytes = { λ s. s.0 };
+
+        fn len(&self) -> usize {
+            self.0.len()
+        }
+
+        fn byte(&self, at: usize) -> Option<u8> {
+            self.0.get(at).copied()
+        }
+    }
+
+    #[test]
+    fn sheet_in_registers(rt: HostRuntime) {
+        let rule = Rated::new(Registers(SHEET), 2, 3);
+        assert_eq!(rt; rule.check(), Err(SheetFault::WrongLength { length: 7 }));
+        assert_eq!(rt; rule.bus_limit(1), 7);
+        assert_eq!(rt; rule.post_limit(0, 10), 35);
+        assert_eq!(rt; rule.post_limit(2, 10), 10, "half a post");
     }
 
     #[test]
