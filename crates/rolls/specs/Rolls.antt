@@ -1,5 +1,5 @@
 -- What a roll means: by its entries, kept in strictly ascending order of their pairs.
-use Rattle.std.specs.Prelude.{◌≡◌, ℕ, ◌<◌, ◌≤◌, min, Bool, cond, ◌&&◌, List, [], ◌∷◌, length, None, Option, Ok, Err, Result, ◌==◌}
+use Rattle.std.specs.Prelude.{◌≡◌, ℕ, ◌+◌, ◌*◌, ◌<◌, ◌≤◌, min, Bool, cond, ◌&&◌, List, [], ◌∷◌, length, None, Option, Ok, Err, Result, ◌==◌}
 use Rattle.std.specs.List.{All, AllPairs, HoldsAt}
 use Rattle.std.specs.List.Sorted.{IsPartitionPoint}
 use Rattle.std.specs.Ordering.{nat_cmp, ordering_then}
@@ -13,6 +13,10 @@ use Rattle.stores.specs.Meaning.{Meaning, empty, carried}
 -- the order of pairs: by bus, then post
 abbrev pub pair_cmp : Pair → Pair → Ordering
 pair_cmp x y = ordering_then (nat_cmp x.bus y.bus) (nat_cmp x.post y.post)
+
+-- the same order as one number, since a post is below 65,536
+abbrev pub key : Pair → ℕ
+key q = q.bus * 65536 + q.post
 
 -- the pair of the one entry comes before that of the other
 abbrev pub Precedes : Entry → Entry → Type 0

@@ -4,7 +4,7 @@
 ghost use Rattle.std.specs.Prelude.{◌≡◌, ◌+◌, ◌-◌, ◌≤◌};
 ghost use Rattle.arrayvec.specs.ArrayVec.{array_vec_len};
 ghost use Rattle.stores.specs.Meaning.{empty, standing_count};
-ghost use Rattle.rolls.specs.Rolls.{Ascending, Found, Inside, Opened, meaning};
+ghost use Rattle.rolls.specs.Rolls.{Ascending, Found, Inside, Opened, key, meaning};
 ghost use Rattle.rolls.specs.Entries.{bounded};
 
 use arrayvec::ArrayVec;
@@ -73,8 +73,16 @@ impl Roll {
     fn find(&self, pair: Pair) -> Result<usize, usize>
         ensures { Found self.now.entries.items pair result }
     {
-        self.entries.binary_search_by_key(&pair, |entry| entry.pair)
+        self.entries
+            .binary_search_by_key(&sort_key(pair), |entry| sort_key(entry.pair))
     }
+}
+
+// A pair's place in the order as one number, so that a step of the search is one comparison.
+fn sort_key(pair: Pair) -> u32
+    ensures { result ≡ key pair }
+{
+    u32::from(pair.bus) << 16 | u32::from(pair.post)
 }
 
 impl View for Roll {
