@@ -1,19 +1,18 @@
 -- Counting what passes a test.
-use Rattle.std.proofs.Common.{◌≡◌, ℕ, zero, suc, ◌+◌, ◌-◌, ◌≤◌, Bool, true, ◌&&◌, nat_lt, List, length, get_or, take, drop, count_by, slice_range, sym, ap, ◌∙◌, inl, inr, arith, length-drop, Some, None, Option}
+use Rattle.std.proofs.Common.{◌≡◌, ℕ, zero, suc, ◌+◌, ◌-◌, ◌^◌, ◌<◌, ◌≤◌, Bool, true, false, cond, ◌&&◌, nat_lt, List, length, map, get_or, take, drop, count_by, slice_range, refl, sym, ap, ◌∙◌, inl, inr, arith, length-append, length-drop, Some, None, Option}
 use Rattle.std.proofs.lemmas.Bool.{cases_Bool}
-use Rattle.std.proofs.lemmas.List.{get_or-drop, take_all}
+use Rattle.std.proofs.lemmas.List.{get_or-drop, take_all, length-map}
 use Rattle.std.proofs.lemmas.List.Sums.{count_by_more_no, count_by_more_yes}
-use Rattle.std.proofs.lemmas.List.Sums.{length-filter}
+use Rattle.std.proofs.lemmas.List.Sums.{count_by-le-length}
 use Rattle.std.proofs.lemmas.List.FromFn.{length-range_with_len, get_or-range_with_len}
 use Rattle.std.proofs.lemmas.Iterator.{YieldsList-from_range, items_from_drains}
-use Rattle.std.proofs.iter.Yields.{nat_range_steps}
+use Rattle.std.proofs.iter.Yields.{nat_range_steps, gives_left}
 use Rattle.std.proofs.iter.runs.Made.{took}
-use Rattle.std.specs.Iterator.{ActsAsAt}
-use Rattle.std.specs.Iterator.Runs.{Run, SomeRun, WholeRun, EachRunFrom, IsFilterRun}
-use Rattle.std.specs.Iterator.Adapters.{filter_steps}
-use Rattle.std.specs.List.{filter, range_with_len}
+use Rattle.std.specs.Iterator.{ActsAs}
+use Rattle.std.specs.Iterator.Runs.{Run, SomeRun, WholeRun, EachRunFrom, IsMapRun}
+use Rattle.std.specs.Iterator.Adapters.{map_steps}
+use Rattle.std.specs.List.{fold, range_with_len}
 use denote.Param.Members.{Mut}
-use denote.Ref.{Bor}
 use mathlib.Core.List.{map-id}
 use Rattle.blocks.specs.Sums.{sum, bit}
 use Rattle.blocks.proofs.Sums.{sum_cong, sum_empty, sum_more}
@@ -60,12 +59,39 @@ count_up t n =
     ap (count_by t) (sym all) ∙ count_taken t (range_with_len 0 n) n (omega (arith, long))
     ∙ sum_cong n _ _ (λ k l. let e : get_or (range_with_len 0 n) k 0 ≡ k = omega (arith, get_or-range_with_len 0 n k 0 l) in ap (λ j. bit (t j)) e)
 
--- `filter` and `count` over the first n numbers, where the closure computes the test t
-pub filtered : {F : Type 0} {g : Mut F (Bor ℕ × Unit {0}) Bool} {f : F} {r : _} (t : ℕ → Bool) {n end count : ℕ} → end ≡ n
-    → EachRunFrom (filter_steps nat_range_steps g) r (λ p. SomeRun nat_range_steps (record { start = 0; end = end }) (λ q. IsFilterRun p q g f))
-    → WholeRun (filter_steps nat_range_steps g) r (λ p. count ≡ p.len) → ActsAsAt g f t → count ≡ sum n (λ k. bit (t k))
-filtered t {n} {end} e runs whole acts =
-    let p = whole.0 in
-    let q = runs p p.seen whole.1 in
-    let items = items_up q.0 end q.1 (q.2.0 ∙ whole.2) in
-    whole.3 ∙ p.long ∙ ap length (q.2.4 t acts ∙ ap (filter t) items) ∙ length-filter t (range_with_len 0 end) ∙ count_up t end ∙ ap (λ m. sum m (λ k. bit (t k))) e
+-- a run over the first n numbers gave at most n
+no_more : (q : Run nat_range_steps) (n : ℕ) → q.from ≡ record { start = 0; end = n } → length q.items ≤ n
+no_more q n e =
+    let d = took q in
+    let m = gives_left nat_range_steps (λ x. x) q.items (range_with_len 0 n) _ _ (YieldsList-from_range 0 n n e (omega arith)).runs d.1 in
+    omega (arith, ap length m.1, length-append (map (λ x. x) q.items) m.0, length-map q.items (λ x. x), length-range_with_len 0 n)
+
+bit_is : (b : Bool) → bit b ≡ cond b 1 0
+bit_is true = refl
+bit_is false = refl
+
+-- `map` and `sum` over the first numbers, where the closure gives 1 for what passes the test t, and 0 for the rest
+module _ {F : Type 0} {g : Mut F (ℕ × Unit {0}) ℕ} {f : F} {r : _} (t : ℕ → Bool) {end : ℕ}
+    (runs : EachRunFrom (map_steps nat_range_steps g) r (λ p. SomeRun nat_range_steps (record { start = 0; end = end }) (λ q. IsMapRun p q g f)))
+    (acts : ActsAs g f (λ k. bit (t k))) where
+  -- what a run adds up to is how many of its source pass
+  run_sum : (p : Run (map_steps nat_range_steps g)) → (from : p.from ≡ r) → fold (λ a x. a + x) 0 p.items ≡ count_by t (runs p p.seen from).0.items
+  run_sum p from =
+      let q = runs p p.seen from in
+      q.2.4 (λ a x. a + x) (λ a x. a + cond (t x) 1 0) 0 (λ x y f' a k. let h = acts x y f' k in (h.0, ap (λ m. a + m) (h.1 ∙ bit_is (t x))))
+
+  run_few : (p : Run (map_steps nat_range_steps g)) → p.from ≡ r → fold (λ a x. a + x) 0 p.items ≤ end
+  run_few p from =
+      let q = runs p p.seen from in
+      omega (arith, run_sum p from, count_by-le-length t q.0.items, no_more q.0 end q.1)
+
+  pub sums_fit : end < 2 ^ 16 → EachRunFrom (map_steps nat_range_steps g) r (λ p. fold (λ a x. a + x) 0 p.items < 2 ^ 16)
+  sums_fit few p seen from = omega (arith, few, run_few p from)
+
+  pub sum_few : {total : ℕ} → WholeRun (map_steps nat_range_steps g) r (λ p. total ≡ fold (λ a x. a + x) 0 p.items) → total ≤ end
+  sum_few whole = omega (arith, whole.3, run_few whole.0 whole.1)
+
+  pub summed : {n total : ℕ} → end ≡ n → WholeRun (map_steps nat_range_steps g) r (λ p. total ≡ fold (λ a x. a + x) 0 p.items) → total ≡ sum n (λ k. bit (t k))
+  summed e whole =
+      let q = runs whole.0 whole.0.seen whole.1 in
+      whole.3 ∙ run_sum whole.0 whole.1 ∙ ap (count_by t) (items_up q.0 end q.1 (q.2.0 ∙ whole.2)) ∙ count_up t end ∙ ap (λ m. sum m (λ k. bit (t k))) e

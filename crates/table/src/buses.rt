@@ -19,8 +19,8 @@ pub(crate) fn count_on<S: View>(view: &S, bus: u16, side: Side) -> u16
     ensures few { result ≤ 256 }
 {
     (0..view.posts())
-        .filter(|&post| carries(view, Pair { bus, post }, side))
-        .count() as u16
+        .map(|post| u16::from(carries(view, Pair { bus, post }, side)))
+        .sum()
 }
 
 // The first post that carries a pair of the bus.

@@ -17,8 +17,8 @@ fn load_of<S: View>(view: &S, post: u16) -> u16
     ensures { result ≡ post_load (yard_of (S.means view.now)) (sides_of (S.means view.now)) post }
 {
     (0..view.buses())
-        .filter(|&bus| carries(view, Pair { bus, post }, Side::Post))
-        .count() as u16
+        .map(|bus| u16::from(carries(view, Pair { bus, post }, Side::Post)))
+        .sum()
 }
 
 // What each post carries.

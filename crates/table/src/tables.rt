@@ -56,6 +56,7 @@ impl<S: Store, R: Rule> Table<S, R> {
     {
         let guard = Cleared::over(bytes);
         enough(&self.store, guard.0.len())?;
+        // Even sides are all that is asked for.
         settle(&mut self.store, &self.rule, guard.0);
         Ok(())
     }
